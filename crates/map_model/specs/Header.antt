@@ -1,0 +1,96 @@
+-- The header of a map: Mapsforge map format 5, on the file header.
+use Rattle.std.specs.Prelude.{ℕ, ◌+◌, ◌*◌, ℤ, List, [], ◌∷◌, ◌++◌, zip, flat_map, length, sum_by, Option, is_some, codes}
+use Rattle.std.specs.Int.{w32, cast_unsigned}
+use Rattle.mf_base.specs.Spelling.{string, be}
+use Rattle.mf_base.specs.declared.place.Place.{Place}
+use Rattle.mf_base.specs.declared.place.Rect.{Rect}
+use Rattle.mf_base.specs.declared.tile.Interval.{Interval}
+use Rattle.map_model.specs.Layout.{optional, flag}
+use Rattle.map_model.specs.Listed.{TagLists}
+
+-- what the words of the command line say of the header; the date is in milliseconds since 1970
+pub record HeadSettings : Type 0 where
+  pub date : ℕ
+  pub start : Option Place
+  pub start_zoom : Option ℕ
+  pub language : Option (List ℕ)
+  pub comment : Option (List ℕ)
+  pub created_by : Option (List ℕ)
+  pub intervals : List Interval
+
+-- where a sub-file starts in the file, and how many bytes it has
+pub record SubFile : Type 0 where
+  pub start : ℕ
+  pub size : ℕ
+
+abbrev pub magic_word : List ℕ
+magic_word = codes "mapsforge binary OSM"
+
+abbrev pub mercator_word : List ℕ
+mercator_word = codes "Mercator"
+
+-- a signed number of four bytes, in two's complement
+abbrev pub be_signed : ℤ → List ℕ
+be_signed z = be 4 (cast_unsigned w32 z)
+
+abbrev pub box_bytes : Rect → List ℕ
+box_bytes box = be_signed box.min_lat ++ be_signed box.min_lon ++ be_signed box.max_lat ++ be_signed box.max_lon
+
+abbrev pub head_flags : HeadSettings → ℕ
+head_flags set = flag (is_some set.start) 0x40 + flag (is_some set.start_zoom) 0x20 + flag (is_some set.language) 0x10 + flag (is_some set.comment) 0x08 + flag (is_some set.created_by) 0x04
+
+-- a count of two bytes, and a string for each tag
+abbrev pub tag_list_bytes : List (List ℕ) → List ℕ
+tag_list_bytes tags = be 2 (length tags) ++ flat_map string tags
+
+-- What a header tells. `other` are the flag bits that have no name, and `after` the bytes after its last field.
+pub record HeaderFields : Type 0 where
+  pub settings : HeadSettings
+  pub bounds : Rect
+  pub tile_size : ℕ
+  pub other : ℕ
+  pub names : TagLists
+  pub subs : List SubFile
+  pub after : List ℕ
+
+-- the fields from the tile size to the number of intervals
+unfoldable pub middle_bytes : ℕ → ℕ → HeadSettings → TagLists → List ℕ
+middle_bytes tile_size other set names =
+    be 2 tile_size ++ string mercator_word ++ (head_flags set + other)
+    ∷ optional (λ p. be_signed p.lat ++ be_signed p.lon) set.start
+    ++ optional (be 1) set.start_zoom
+    ++ optional string set.language ++ optional string set.comment ++ optional string set.created_by
+    ++ tag_list_bytes names.poi ++ tag_list_bytes names.way
+    ++ be 1 (length set.intervals)
+
+abbrev pub interval_bytes : Interval × SubFile → List ℕ
+interval_bytes at = be 1 at.0.base ++ be 1 at.0.min ++ be 1 at.0.max ++ be 8 at.1.start ++ be 8 at.1.size
+
+-- the fields after the header size, in a file of so many bytes
+unfoldable pub fields_bytes : ℕ → HeaderFields → List ℕ
+fields_bytes total h =
+    be 4 5 ++ be 8 total ++ be 8 h.settings.date ++ box_bytes h.bounds
+    ++ middle_bytes h.tile_size h.other h.settings h.names
+    ++ flat_map interval_bytes (zip h.settings.intervals h.subs)
+    ++ h.after
+
+-- the header size counts the bytes after its own field
+unfoldable pub header_fields_bytes : ℕ → HeaderFields → List ℕ
+header_fields_bytes total h = magic_word ++ be 4 (length (fields_bytes total h)) ++ fields_bytes total h
+
+-- what is written in the header
+unfoldable pub written_header : HeadSettings → Rect → TagLists → List SubFile → HeaderFields
+written_header set box names subs = record { settings = set; bounds = box; tile_size = 256; other = 0; names = names; subs = subs; after = [] }
+
+-- the size of the header, whatever its sub-files: 60 bytes up to the box, and 19 for each interval
+unfoldable pub header_size : HeadSettings → TagLists → ℕ
+header_size set names = 60 + length (middle_bytes 256 0 set names) + 19 * length set.intervals
+
+-- the header, with one sub-file for each interval; the file ends where the last of them does
+unfoldable pub header_bytes : HeadSettings → Rect → TagLists → List SubFile → List ℕ
+header_bytes set box names subs = header_fields_bytes (header_size set names + sum_by (λ s. s.size) subs) (written_header set box names subs)
+
+-- sub-files of these sizes, each starting where the one before ends
+abbrev pub sub_files_from : ℕ → List ℕ → List SubFile
+sub_files_from start [] = []
+sub_files_from start (size ∷ sizes) = record { start = start; size = size } ∷ sub_files_from (start + size) sizes

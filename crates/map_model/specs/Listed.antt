@@ -1,0 +1,111 @@
+-- What a reader of a map sees of a tile. This project's profile.
+use Rattle.std.specs.Prelude.{ℕ, ◌==◌, ℤ, List, [], ◌++◌, map, flat_map, zip, Option, slice_index_or, codes, if◌then◌else◌}
+use Rattle.std.specs.List.{before_first, after_first}
+use Rattle.std.specs.Str.{bytes_eq}
+use Rattle.mf_base.specs.declared.place.Place.{Place}
+use Rattle.mf_base.specs.declared.tile.Interval.{Interval}
+use Rattle.mf_base.specs.declared.tile.TilePlace.{TilePlace}
+use Rattle.feature_model.specs.Mapping.{KeptValue}
+use Rattle.feature_model.specs.Choice.{Kept}
+use Rattle.feature_model.specs.Features.{Feature}
+use Rattle.map_model.specs.Tiles.{is_poi, effective_zoom, sub_tile_bits, zooms}
+use Rattle.map_model.specs.Layout.{PoiFields, WayFields, Level}
+use Rattle.map_model.specs.TileBytes.{poi_fields, way_fields, tile_corner}
+
+-- the texts of a header's tags, a list for POIs and a list for ways
+pub record TagLists : Type 0 where
+  pub poi : List (List ℕ)
+  pub way : List (List ℕ)
+
+-- A shown tag: the header's text, or its key and a value of the feature.
+pub data ShownTag : Type 0 where
+  plain : List ℕ → ShownTag
+  number : List ℕ → ℤ → ShownTag
+  text : List ℕ → List ℕ → ShownTag
+
+pub record ListedPoi : Type 0 where
+  pub zoom : ℕ
+  pub layer : ℤ
+  pub place : Place
+  pub tags : List ShownTag
+  pub name : Option (List ℕ)
+  pub house : Option (List ℕ)
+  pub height : Option ℤ
+
+pub record ListedWay : Type 0 where
+  pub zoom : ℕ
+  pub layer : ℤ
+  pub bits : ℕ
+  pub tags : List ShownTag
+  pub name : Option (List ℕ)
+  pub house : Option (List ℕ)
+  pub reference : Option (List ℕ)
+  pub label : Option Place
+  pub blocks : List (List (List Place))
+
+pub data Listed : Type 0 where
+  poi : ListedPoi → Listed
+  way : ListedWay → Listed
+
+-- ---- tags of the header
+
+-- what stands before the first `=` of a tag's text, and what stands after it
+abbrev pub key_of : List ℕ → List ℕ
+key_of tag = before_first (λ b. b == 61) tag
+
+abbrev pub value_of : List ℕ → List ℕ
+value_of tag = after_first (λ b. b == 61) tag
+
+-- the values that are kinds; any other value, or none, stands for itself
+pub data ValueKind : Type 0 where
+  none : ValueKind
+  byte : ValueKind
+  short : ValueKind
+  int : ValueKind
+  text : ValueKind
+
+abbrev pub kind_of_value : List ℕ → ValueKind
+kind_of_value value =
+    if bytes_eq value (codes "%b") then ValueKind.byte
+    else (if bytes_eq value (codes "%h") then ValueKind.short
+    else (if bytes_eq value (codes "%i") then ValueKind.int
+    else (if bytes_eq value (codes "%s") then ValueKind.text
+    else ValueKind.none)))
+
+unfoldable pub value_kind : List ℕ → ValueKind
+value_kind tag = kind_of_value (value_of tag)
+
+-- the text of the tag with this id
+abbrev pub tag_at : List (List ℕ) → ℕ → List ℕ
+tag_at tags id = slice_index_or tags id []
+
+-- ---- what is shown
+
+abbrev pub shown_value : List ℕ → KeptValue → ShownTag
+shown_value tag KeptValue.plain = ShownTag.plain tag
+shown_value tag (KeptValue.byte n) = ShownTag.number (key_of tag) n
+shown_value tag (KeptValue.short n) = ShownTag.number (key_of tag) n
+shown_value tag (KeptValue.int n) = ShownTag.number (key_of tag) n
+shown_value tag (KeptValue.text bytes) = ShownTag.text (key_of tag) bytes
+
+abbrev pub shown_tags : List (List ℕ) → List Kept → List ShownTag
+shown_tags tags kept = map (λ k. shown_value (tag_at tags k.id) k.value) kept
+
+abbrev pub shown_poi : List (List ℕ) → ℕ → PoiFields → ListedPoi
+shown_poi tags zoom p = record { zoom = zoom; layer = p.layer; place = p.place; tags = shown_tags tags p.tags; name = p.name; house = p.house; height = p.height }
+
+abbrev pub shown_way : List (List ℕ) → ℕ → WayFields → ListedWay
+shown_way tags zoom w = record { zoom = zoom; layer = w.layer; bits = w.bits; tags = shown_tags tags w.tags; name = w.name; house = w.house; reference = w.reference; label = w.label; blocks = w.blocks }
+
+-- the records of a tile: the POIs by zoom level, then the ways
+unfoldable pub shown_levels : TagLists → Interval → List Level → List Listed
+shown_levels tags interval levels =
+    flat_map (λ at. map (λ p. poi (shown_poi tags.poi at.0 p)) at.1.pois) (zip (zooms interval) levels)
+    ++ flat_map (λ at. map (λ w. way (shown_way tags.way at.0 w)) at.1.ways) (zip (zooms interval) levels)
+
+-- a feature as a reader sees it in a tile
+unfoldable pub listed : TagLists → TilePlace → Feature → Listed
+listed tags tile f =
+    let zoom = effective_zoom tile.interval f in
+    if is_poi f then poi (shown_poi tags.poi zoom (poi_fields f))
+    else way (shown_way tags.way zoom (way_fields (tile_corner tile) (sub_tile_bits f tile) f))

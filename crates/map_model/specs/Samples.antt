@@ -1,0 +1,151 @@
+-- Features of the worked rows.
+use Rattle.std.specs.Prelude.{ℕ, ℤ, pos, negsuc, List, [], ◌∷◌, ◌++◌, None, true, false, codes, replicate}
+use Rattle.mf_base.specs.declared.kind.EntityKind.TheVariants.{Node, Way}
+use Rattle.mf_base.specs.declared.place.Place.{Place}
+use Rattle.mf_base.specs.declared.place.Rect.{Rect}
+use Rattle.mf_base.specs.declared.tile.TilePlace.{TilePlace}
+use Rattle.feature_model.specs.Mapping.{KeptValue}
+use Rattle.feature_model.specs.Features.{Shape, Feature}
+use Rattle.map_model.specs.Header.{HeadSettings}
+use Rattle.map_model.specs.MapFile.{EntityCounts, Report}
+use Rattle.map_model.specs.Listed.{TagLists, ShownTag, Listed, poi}
+
+abbrev pub at_place : ℤ → ℤ → Place
+at_place lat lon = record { lat = lat; lon = lon }
+
+-- the corner of the one tile of base zoom 0
+abbrev pub world_corner : Place
+world_corner = at_place (pos 85051128) (negsuc 179999999)
+
+-- one bench at (0, 0): the tag of entry 0
+abbrev pub bench : Feature
+bench = record {
+  kind = Node;
+  id = 1;
+  zoom = 5;
+  layer = pos 0;
+  water = false;
+  label = false;
+  coast = false;
+  height = None;
+  tags = record { id = 0; value = KeptValue.plain } ∷ [];
+  name = None;
+  house = None;
+  reference = None;
+  shape = Shape.point (at_place (pos 0) (pos 0));
+  weight = 11;
+}
+
+-- the same with one tag of another value, as of zoom 17
+abbrev pub bench_with_value : KeptValue → Feature
+bench_with_value value = record bench { zoom = 17; tags = record { id = 0; value = value } ∷ [] }
+
+-- a way of zoom 17 through these places, with the tag of entry 0
+abbrev pub way_of : List Place → Feature
+way_of places = record {
+  kind = Way;
+  id = 1;
+  zoom = 17;
+  layer = pos 0;
+  water = false;
+  label = false;
+  coast = false;
+  height = None;
+  tags = record { id = 0; value = KeptValue.plain } ∷ [];
+  name = None;
+  house = None;
+  reference = None;
+  shape = Shape.blocks ((places ∷ []) ∷ []);
+  weight = 11;
+}
+
+-- a closed way with the label mark
+abbrev pub garden_ring : List Place
+garden_ring = at_place (pos 0) (pos 0) ∷ at_place (pos 0) (pos 20) ∷ at_place (pos 10) (pos 20) ∷ at_place (pos 10) (pos 0) ∷ at_place (pos 0) (pos 0) ∷ []
+
+abbrev pub garden : Feature
+garden = record (way_of garden_ring) { label = true }
+
+-- four places, each 1,000 microdegrees east of the last
+abbrev pub eastward : List Place
+eastward = at_place (pos 0) (pos 0) ∷ at_place (pos 0) (pos 1000) ∷ at_place (pos 0) (pos 2000) ∷ at_place (pos 0) (pos 3000) ∷ []
+
+-- one interval of base zoom 0 up to a maximum, a date, and nothing optional
+abbrev pub settings_to : ℕ → HeadSettings
+settings_to max = record {
+  date = 1700000000000;
+  start = None;
+  start_zoom = None;
+  language = None;
+  comment = None;
+  created_by = None;
+  intervals = record { base = 0; min = 0; max = max } ∷ [];
+}
+
+-- one degree each way
+abbrev pub degree_box : Rect
+degree_box = record { min_lat = negsuc 999999; min_lon = negsuc 999999; max_lat = pos 1000000; max_lon = pos 1000000 }
+
+abbrev pub bench_tags : TagLists
+bench_tags = record { poi = codes "amenity=bench" ∷ []; way = [] }
+
+-- the map of the bench
+abbrev pub bench_sub_file : List ℕ
+bench_sub_file =
+    0x00 ∷ 0x00 ∷ 0x00 ∷ 0x00 ∷ 0x05
+    ∷ 0x00 ∷ 0x00 ∷ 0x00 ∷ 0x00 ∷ 0x00 ∷ 0x00 ∷ 0x00 ∷ 0x00 ∷ 0x00 ∷ 0x00 ∷ 0x01 ∷ 0x00 ∷ 0x00 ∷ 0x00 ∷ 0x00 ∷ 0x00
+    ∷ 0x0C
+    ∷ 0xF8 ∷ 0x8D ∷ 0xC7 ∷ 0x68 ∷ 0x80 ∷ 0xAA ∷ 0xEA ∷ 0xD5 ∷ 0x00 ∷ 0x51 ∷ 0x00 ∷ 0x00 ∷ []
+
+-- the header of a map of one interval, of base 0 up to zoom 7, with these tags, file size and sub-file
+abbrev pub degree_header : List ℕ → List ℕ → List ℕ
+degree_header sizes rest =
+    codes "mapsforge binary OSM" ++ 0x00 ∷ 0x00 ∷ 0x00 ∷ 0x56 ∷ 0x00 ∷ 0x00 ∷ 0x00 ∷ 0x05
+    ∷ 0x00 ∷ 0x00 ∷ 0x00 ∷ 0x00 ∷ 0x00 ∷ 0x00 ∷ 0x00 ∷ sizes
+    ++ 0x00 ∷ 0x00 ∷ 0x01 ∷ 0x8B ∷ 0xCF ∷ 0xE5 ∷ 0x68 ∷ 0x00
+    ∷ 0xFF ∷ 0xF0 ∷ 0xBD ∷ 0xC0 ∷ 0xFF ∷ 0xF0 ∷ 0xBD ∷ 0xC0 ∷ 0x00 ∷ 0x0F ∷ 0x42 ∷ 0x40 ∷ 0x00 ∷ 0x0F ∷ 0x42 ∷ 0x40
+    ∷ 0x01 ∷ 0x00 ∷ 0x08 ∷ codes "Mercator" ++ 0x00 ∷ 0x00 ∷ 0x01 ∷ 0x0D ∷ codes "amenity=bench" ++ 0x00 ∷ 0x00
+    ∷ 0x01 ∷ 0x00 ∷ 0x00 ∷ 0x07 ∷ 0x00 ∷ 0x00 ∷ 0x00 ∷ 0x00 ∷ 0x00 ∷ 0x00 ∷ 0x00 ∷ 0x6E
+    ∷ 0x00 ∷ 0x00 ∷ 0x00 ∷ 0x00 ∷ 0x00 ∷ 0x00 ∷ 0x00 ∷ rest
+
+-- the 144 bytes of the map of one bench
+abbrev pub bench_map : List ℕ
+bench_map = degree_header (0x90 ∷ []) (0x22 ∷ bench_sub_file)
+
+-- the 115 bytes of a map without features
+abbrev pub empty_map : List ℕ
+empty_map = degree_header (0x73 ∷ []) (0x05 ∷ 0x00 ∷ 0x00 ∷ 0x00 ∷ 0x00 ∷ 0x05 ∷ [])
+
+-- the bench as a reader sees it
+abbrev pub listed_bench : Listed
+listed_bench = poi (record { zoom = 5; layer = pos 0; place = at_place (pos 0) (pos 0); tags = ShownTag.plain (codes "amenity=bench") ∷ []; name = None; house = None; height = None })
+
+-- the one tile of base zoom 0, of an interval up to a zoom
+abbrev pub world_tile : ℕ → TilePlace
+world_tile max = record { index = 0; interval = record { base = 0; min = 0; max = max }; x = 0; y = 0 }
+
+-- the tile of the garden: zoom levels 0 to 21, no POI, and one way of zoom 17
+abbrev pub garden_tags : TagLists
+garden_tags = record { poi = []; way = codes "leisure=garden" ∷ [] }
+
+abbrev pub garden_bytes : List ℕ
+garden_bytes =
+    0x1A ∷ 0x02 ∷ 0x20 ∷ 0x51 ∷ 0x00 ∷ 0x10 ∷ 0x05 ∷ 0x0A ∷ 0x01 ∷ 0x05 ∷ 0xF8 ∷ 0x8D ∷ 0xC7 ∷ 0x68 ∷ 0x80 ∷ 0xAA ∷ 0xEA ∷ 0xD5 ∷ 0x00
+    ∷ 0x00 ∷ 0x14 ∷ 0x0A ∷ 0x00 ∷ 0x00 ∷ 0x54 ∷ 0x4A ∷ 0x00 ∷ []
+
+abbrev pub garden_tile : List ℕ
+garden_tile = replicate 35 0 ++ 0x01 ∷ replicate 8 0 ++ 0x00 ∷ garden_bytes
+
+-- the entities of an input of one node, and the report of the bench's map
+abbrev pub one_node : EntityCounts
+one_node = record { nodes = 1; ways = 0; relations = 0; refs = 0; members = 0 }
+
+abbrev pub bench_numbers : Report
+bench_numbers = record { nodes = 1; ways = 0; relations = 0; features = 1; skipped = 0; tiles = 1; water = 0; bytes = 144; largest = 11 }
+
+-- a closed water way through two latitudes and two longitudes, along its four sides, and a tile of zoom 5
+abbrev pub lake : Feature
+lake = record (way_of (at_place (negsuc 4999999) (pos 5000000) ∷ at_place (pos 16000000) (pos 5000000) ∷ at_place (pos 16000000) (pos 28000000) ∷ at_place (negsuc 4999999) (pos 28000000) ∷ at_place (negsuc 4999999) (pos 5000000) ∷ [])) { water = true }
+
+abbrev pub lake_tile : ℕ → ℕ → TilePlace
+lake_tile x y = record { index = 0; interval = record { base = 5; min = 0; max = 7 }; x = x; y = y }

@@ -1,0 +1,66 @@
+-- The tile index and the tiles of a zoom interval: Mapsforge map format 5, on sub-files; the water test is this project's profile.
+use Rattle.std.specs.Prelude.{ℕ, ◌+◌, ◌*◌, ◌^◌, if◌then◌else◌, Bool, not, ◌&&◌, List, [], ◌∷◌, ◌++◌, map, zip, flat_map, length, take, sum_by}
+use Rattle.std.specs.List.{range_with_len, list_any, list_all}
+use Rattle.mf_base.specs.Spelling.{be}
+use Rattle.mf_base.specs.declared.place.Place.{Place}
+use Rattle.mf_base.specs.declared.place.Rect.{Rect}
+use Rattle.mf_base.specs.declared.tile.Interval.{Interval}
+use Rattle.mf_base.specs.declared.tile.TilePlace.{TilePlace}
+use Rattle.feature_model.specs.Features.{Feature}
+use Rattle.feature_model.specs.Inside.{edges, inside}
+use Rattle.map_model.specs.Tiles.{rings_of, rect_of_places, meets, is_closed, interval_tiles, members}
+use Rattle.map_model.specs.TileBytes.{tile_corner, tile_bytes}
+
+-- an edge whose rectangle meets the tile
+abbrev pub edge_meets : TilePlace → Place × Place → Bool
+edge_meets tile edge = meets (rect_of_places (edge.0 ∷ edge.1 ∷ [])) tile.interval.base tile.x tile.y
+
+-- A feature covers a tile: it has the water mark and only closed rings, no edge meets the tile, and the tile's corner is inside its rings.
+unfoldable pub covers : TilePlace → Feature → Bool
+covers tile f =
+    f.water && list_all is_closed (rings_of f)
+    && not (list_any (edge_meets tile) (flat_map edges (rings_of f)))
+    && inside (rings_of f) (tile_corner tile)
+
+-- the water bit: some member covers the tile
+unfoldable pub water : TilePlace → List Feature → Bool
+water tile members = list_any (covers tile) members
+
+-- what a sub-file has of a tile
+pub record Piece : Type 0 where
+  pub water : Bool
+  pub bytes : List ℕ
+
+unfoldable pub piece_of : TilePlace → List Feature → Piece
+piece_of tile members = record { water = water tile members; bytes = tile_bytes tile members }
+
+-- the pieces of an interval's tiles, row by row from the north and west to east
+unfoldable pub pieces : List Feature → Rect → ℕ → Interval → List Piece
+pieces features box index interval = map (λ tile. piece_of tile (members features tile)) (interval_tiles box index interval)
+
+-- five bytes: the top bit is the water bit, and the other 39 are the offset
+abbrev pub entry_bytes : Bool → ℕ → List ℕ
+entry_bytes water offset = be 5 ((if water then 2 ^ 39 else 0) + offset)
+
+-- the lengths of some pieces together
+abbrev pub size_of_pieces : List Piece → ℕ
+size_of_pieces ps = sum_by (λ p. length p.bytes) ps
+
+-- the offset of tile j: five bytes for each entry of the index, and the tiles before it
+abbrev pub offset_of : List Piece → ℕ → ℕ
+offset_of ps j = 5 * length ps + size_of_pieces (take j ps)
+
+-- one entry for each tile
+unfoldable pub index_bytes : List Piece → List ℕ
+index_bytes ps = flat_map (λ at. entry_bytes at.1.water (offset_of ps at.0)) (zip (range_with_len 0 (length ps)) ps)
+
+-- the index, then the tiles
+unfoldable pub sub_file_of : List Piece → List ℕ
+sub_file_of ps = index_bytes ps ++ flat_map (λ p. p.bytes) ps
+
+-- the bytes before the first tile, and those of the tiles
+abbrev pub sub_file_size : List Piece → ℕ
+sub_file_size ps = 5 * length ps + size_of_pieces ps
+
+unfoldable pub sub_file : List Feature → Rect → ℕ → Interval → List ℕ
+sub_file features box index interval = sub_file_of (pieces features box index interval)

@@ -1,0 +1,78 @@
+-- The bytes of features in a tile: Mapsforge map format 5, on tile header, POIs and ways; the choices are this project's profile.
+use Rattle.std.specs.Prelude.{ℕ, nat_lt, ◌==◌, Bool, true, false, List, [], ◌∷◌, ◌++◌, map, flat_map, filter, sum_by, count_by, length}
+use Rattle.mf_base.specs.Spelling.{vbe_u}
+use Rattle.mf_base.specs.declared.place.Place.{Place}
+use Rattle.mf_base.specs.declared.tile.Interval.{Interval}
+use Rattle.mf_base.specs.declared.tile.TilePlace.{TilePlace}
+use Rattle.feature_model.specs.Features.{Feature}
+use Rattle.map_model.specs.Mercator.{corner}
+use Rattle.map_model.specs.Tiles.{blocks_of, rings_of, places_of, first_place, is_poi, is_way, effective_zoom, zooms, of_zoom, sub_tile_bits, label_place}
+use Rattle.map_model.specs.Layout.{PoiFields, WayFields, Level, sized, coordinate_bytes, poi_fields_bytes, way_fields_bytes}
+
+-- what is written of a POI
+unfoldable pub poi_fields : Feature → PoiFields
+poi_fields f = record { place = first_place (places_of f); layer = f.layer; tags = f.tags; other = 0; name = f.name; house = f.house; height = f.height }
+
+unfoldable pub poi_bytes : Place → Feature → List ℕ
+poi_bytes corner f = poi_fields_bytes corner (poi_fields f)
+
+-- the bytes of all coordinates of a feature under single or double delta
+unfoldable pub coordinate_size : Place → Bool → Feature → ℕ
+coordinate_size corner double f = sum_by (λ ring. length (coordinate_bytes corner double ring)) (rings_of f)
+
+-- double delta is written exactly where it takes fewer bytes
+unfoldable pub is_double : Place → Feature → Bool
+is_double corner f = nat_lt (coordinate_size corner true f) (coordinate_size corner false f)
+
+-- what is written of a way with these bits
+unfoldable pub way_fields : Place → ℕ → Feature → WayFields
+way_fields corner bits f = record {
+  bits = bits;
+  layer = f.layer;
+  tags = f.tags;
+  other = 0;
+  name = f.name;
+  house = f.house;
+  reference = f.reference;
+  label = label_place f;
+  counted = nat_lt 1 (length (blocks_of f.shape));
+  double = is_double corner f;
+  blocks = blocks_of f.shape;
+}
+
+unfoldable pub way_bytes : Place → ℕ → Feature → List ℕ
+way_bytes corner bits f = way_fields_bytes corner (way_fields corner bits f)
+
+abbrev pub tile_corner : TilePlace → Place
+tile_corner tile = corner tile.interval.base tile.x tile.y
+
+-- how many features have the effective zoom
+abbrev pub zoom_count : Interval → ℕ → List Feature → ℕ
+zoom_count interval zoom features = count_by (λ f. effective_zoom interval f == zoom) features
+
+-- per zoom level from min to max the number of POIs and the number of ways with that effective zoom
+unfoldable pub zoom_table : Interval → List Feature → List ℕ
+zoom_table interval members =
+    flat_map (λ zoom. vbe_u (zoom_count interval zoom (filter is_poi members)) ++ vbe_u (zoom_count interval zoom (filter is_way members))) (zooms interval)
+
+-- the zoom table, the first-way offset, the POIs, the ways
+unfoldable pub some_tile_bytes : Place → TilePlace → List Feature → List ℕ
+some_tile_bytes corner tile members =
+    zoom_table tile.interval members
+    ++ sized (flat_map (poi_bytes corner) (filter is_poi members))
+    ++ flat_map (λ f. way_bytes corner (sub_tile_bits f tile) f) (filter is_way members)
+
+-- a tile without members takes no bytes
+unfoldable pub tile_bytes : TilePlace → List Feature → List ℕ
+tile_bytes tile [] = []
+tile_bytes tile (f ∷ members) = some_tile_bytes (tile_corner tile) tile (f ∷ members)
+
+-- what is written of the members of one effective zoom, and of all
+unfoldable pub written_level : Place → TilePlace → List Feature → ℕ → Level
+written_level corner tile members zoom = record {
+  pois = map poi_fields (of_zoom tile.interval zoom (filter is_poi members));
+  ways = map (λ f. way_fields corner (sub_tile_bits f tile) f) (of_zoom tile.interval zoom (filter is_way members));
+}
+
+unfoldable pub written_levels : TilePlace → List Feature → List Level
+written_levels tile members = map (written_level (tile_corner tile) tile members) (zooms tile.interval)

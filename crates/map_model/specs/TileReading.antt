@@ -1,0 +1,351 @@
+-- Reading a tile, with its first fault: Mapsforge map format 5, on tile header, POIs and ways; the faults are this project's profile.
+use Rattle.std.specs.Prelude.{◌≡◌, ℕ, zero, suc, ◌+◌, ◌-◌, ◌/◌, ◌%◌, ◌^◌, ◌<◌, ◌≤◌, nat_lt, nat_le, ◌==◌, if◌then◌else◌, Bool, true, false, IsTrue, ℤ, pos, negsuc, ◌+ℤ◌, ◌-ℤ◌, List, [], ◌∷◌, map, zip, length, take, drop, Option, Some, None, IfSome, Result, Ok, Err, ⊤}
+use Rattle.std.specs.List.{AllByRecursion}
+use Rattle.std.specs.Str.{is_utf8}
+use Rattle.std.specs.Int.{w8, w16, w32, cast_signed}
+use Rattle.mf_base.specs.declared.place.Place.{Place}
+use Rattle.mf_base.specs.declared.tile.Interval.{Interval}
+use Rattle.mf_base.specs.declared.tile.TilePlace.{TilePlace}
+use Rattle.mf_base.specs.NumberReading.{unsigned_at, signed_at}
+use Rattle.feature_model.specs.Mapping.{KeptValue}
+use Rattle.feature_model.specs.Choice.{Kept}
+use Rattle.map_model.specs.Numbers.{is_in_32, lies_within}
+use Rattle.map_model.specs.Tiles.{origin, zooms}
+use Rattle.map_model.specs.Layout.{PoiFields, WayFields, Level, step, levels_bytes}
+use Rattle.map_model.specs.TileBytes.{tile_corner}
+use Rattle.map_model.specs.Listed.{TagLists, Listed, ValueKind, value_kind, tag_at, shown_levels}
+use Rattle.map_model.specs.Reading.{◌>>=◌, Stop, Read, want, or_stop, fixed_number, times, each, where_set}
+
+-- why a field of a tile has no spelling
+pub data TileKind : Type 0 where
+  vbe : TileKind
+  short : TileKind
+  tag : TileKind
+  text : TileKind
+  range : TileKind
+  points : TileKind
+  size : TileKind
+  offset : TileKind
+  left : TileKind
+
+-- the first field without a spelling, by its place in the tile
+pub record TileFault : Type 0 where
+  pub at : ℕ
+  pub kind : TileKind
+
+-- ---- numbers, texts, places
+
+unfoldable pub number : List ℕ → Read TileKind ℕ
+number bytes = or_stop vbe bytes (unsigned_at bytes)
+
+unfoldable pub signed : List ℕ → Read TileKind ℤ
+signed bytes = or_stop vbe bytes (signed_at bytes)
+
+-- a count of at least so many things
+unfoldable pub count_from : ℕ → List ℕ → Read TileKind ℕ
+count_from few bytes = do
+  n ← number bytes
+  enough ← want (nat_le few n.0) points bytes
+  Ok n
+
+-- a text: its length, and bytes that are UTF-8
+unfoldable pub text_at : List ℕ → Read TileKind (List ℕ)
+text_at bytes = do
+  n ← number bytes
+  whole ← want (nat_le n.0 (length n.1)) TileKind.text bytes
+  good ← want (is_utf8 (take n.0 n.1)) TileKind.text bytes
+  Ok (take n.0 n.1, drop n.0 n.1)
+
+-- a number that with the base lies in 32 bits
+unfoldable pub ranged : ℤ → List ℕ → Read TileKind ℤ
+ranged base bytes = do
+  d ← signed bytes
+  fits ← want (is_in_32 (base +ℤ d.0)) range bytes
+  Ok (base +ℤ d.0, d.1)
+
+-- a place, told by how far it is from another
+unfoldable pub place_from : Place → List ℕ → Read TileKind Place
+place_from base bytes = do
+  lat ← ranged base.lat bytes
+  lon ← ranged base.lon lat.1
+  Ok (record { lat = lat.0; lon = lon.0 }, lon.1)
+
+-- ---- tags
+
+-- the layer, and the number of tags
+unfoldable pub layer_at : List ℕ → Read TileKind (ℤ × ℕ)
+layer_at bytes = do
+  b ← fixed_number TileKind.short 1 bytes
+  fits ← want (nat_le (b.0 / 16) 10) range bytes
+  Ok ((pos (b.0 / 16) -ℤ pos 5, b.0 % 16), b.1)
+
+-- a tag id, which is below the list's count
+unfoldable pub id_at : List (List ℕ) → List ℕ → Read TileKind ℕ
+id_at tags bytes = do
+  id ← number bytes
+  known ← want (nat_lt id.0 (length tags)) tag bytes
+  Ok id
+
+-- the value of a tag of this kind
+abbrev pub value_at : ValueKind → List ℕ → Read TileKind KeptValue
+value_at ValueKind.none bytes = Ok (KeptValue.plain, bytes)
+value_at ValueKind.byte bytes = do
+  n ← fixed_number TileKind.short 1 bytes
+  Ok (KeptValue.byte (cast_signed w8 n.0), n.1)
+value_at ValueKind.short bytes = do
+  n ← fixed_number TileKind.short 2 bytes
+  Ok (KeptValue.short (cast_signed w16 n.0), n.1)
+value_at ValueKind.int bytes = do
+  n ← fixed_number TileKind.short 4 bytes
+  Ok (KeptValue.int (cast_signed w32 n.0), n.1)
+value_at ValueKind.text bytes = do
+  t ← text_at bytes
+  Ok (KeptValue.text t.0, t.1)
+
+-- the tag with this id, and its value
+abbrev pub kept_at : List (List ℕ) → ℕ → List ℕ → Read TileKind Kept
+kept_at tags id bytes = do
+  value ← value_at (value_kind (tag_at tags id)) bytes
+  Ok (record { id = id; value = value.0 }, value.1)
+
+-- all tag ids, then the values in their order
+unfoldable pub tags_at : List (List ℕ) → ℕ → List ℕ → Read TileKind (List Kept)
+tags_at tags count bytes = do
+  ids ← times count (id_at tags) bytes
+  each (kept_at tags) ids.0 ids.1
+
+abbrev pub has_flag : ℕ → ℕ → Bool
+has_flag flags bit = flags / bit % 2 == 1
+
+-- ---- POI
+
+unfoldable pub poi_at : List (List ℕ) → Place → List ℕ → Read TileKind PoiFields
+poi_at tags corner bytes = do
+  place ← place_from corner bytes
+  layer ← layer_at place.1
+  kept ← tags_at tags layer.0.1 layer.1
+  flags ← fixed_number TileKind.short 1 kept.1
+  name ← where_set (has_flag flags.0 0x80) text_at flags.1
+  house ← where_set (has_flag flags.0 0x40) text_at name.1
+  height ← where_set (has_flag flags.0 0x20) (ranged (pos 0)) house.1
+  Ok (record { place = place.0; layer = layer.0.0; tags = kept.0; other = flags.0 % 32; name = name.0; house = house.0; height = height.0 }, height.1)
+
+-- ---- way
+
+abbrev pub moved : Place → Place → Place
+moved a s = record { lat = a.lat +ℤ s.lat; lon = a.lon +ℤ s.lon }
+
+-- the places after one, the last step before it being known
+unfoldable pub places_after : Bool → ℕ → Place → Place → List ℕ → Read TileKind (List Place)
+places_after double zero before last bytes = Ok ([], bytes)
+places_after double (suc n) before last bytes = do
+  p ← place_from (if double then moved before last else before) bytes
+  others ← places_after double n p.0 (step before p.0) p.1
+  Ok (p.0 ∷ others.0, others.1)
+
+-- two places at least, the first told by how far it is from the corner
+unfoldable pub ring_at : Place → Bool → List ℕ → Read TileKind (List Place)
+ring_at corner double bytes = do
+  n ← count_from 2 bytes
+  first ← place_from corner n.1
+  others ← places_after double (n.0 - 1) first.0 origin first.1
+  Ok (first.0 ∷ others.0, others.1)
+
+-- one ring at least
+unfoldable pub block_at : Place → Bool → List ℕ → Read TileKind (List (List Place))
+block_at corner double bytes = do
+  n ← count_from 1 bytes
+  times n.0 (ring_at corner double) n.1
+
+-- the number of data blocks, which is 1 where it is not told
+abbrev pub block_count_at : Bool → List ℕ → Read TileKind ℕ
+block_count_at true bytes = count_from 1 bytes
+block_count_at false bytes = Ok (1, bytes)
+
+-- one data block at least
+unfoldable pub blocks_at : Place → Bool → Bool → List ℕ → Read TileKind (List (List (List Place)))
+blocks_at corner counted double bytes = do
+  n ← block_count_at counted bytes
+  times n.0 (block_at corner double) n.1
+
+-- the first place of the first ring, which needs every field before it
+unfoldable pub first_place_at : Place → Bool → List ℕ → Read TileKind Place
+first_place_at corner counted bytes = do
+  blocks ← block_count_at counted bytes
+  rings ← count_from 1 blocks.1
+  places ← count_from 2 rings.1
+  place_from corner places.1
+
+-- two signed numbers
+unfoldable pub two_signed : List ℕ → Read TileKind (ℤ × ℤ)
+two_signed bytes = do
+  lat ← signed bytes
+  lon ← signed lat.1
+  Ok ((lat.0, lon.0), lon.1)
+
+-- The label's numbers are read in their place; whether its place is in range is known with the first place of the first ring,
+-- and then it comes before what stands behind that place.
+unfoldable pub label_and_blocks_at : Place → ℕ → List ℕ → Read TileKind (Option Place × List (List (List Place)))
+label_and_blocks_at corner flags bytes = do
+  numbers ← where_set (has_flag flags 0x10) two_signed bytes
+  first ← first_place_at corner (has_flag flags 0x08) numbers.1
+  label ← where_set (has_flag flags 0x10) (place_from first.0) bytes
+  blocks ← blocks_at corner (has_flag flags 0x08) (has_flag flags 0x04) numbers.1
+  Ok ((label.0, blocks.0), blocks.1)
+
+unfoldable pub way_body_at : List (List ℕ) → Place → List ℕ → Read TileKind WayFields
+way_body_at tags corner bytes = do
+  bits ← fixed_number TileKind.short 2 bytes
+  layer ← layer_at bits.1
+  kept ← tags_at tags layer.0.1 layer.1
+  flags ← fixed_number TileKind.short 1 kept.1
+  name ← where_set (has_flag flags.0 0x80) text_at flags.1
+  house ← where_set (has_flag flags.0 0x40) text_at name.1
+  reference ← where_set (has_flag flags.0 0x20) text_at house.1
+  rest ← label_and_blocks_at corner flags.0 reference.1
+  Ok (
+    record {
+      bits = bits.0;
+      layer = layer.0.0;
+      tags = kept.0;
+      other = flags.0 % 4;
+      name = name.0;
+      house = house.0;
+      reference = reference.0;
+      label = rest.0.0;
+      counted = has_flag flags.0 0x08;
+      double = has_flag flags.0 0x04;
+      blocks = rest.0.1;
+    },
+    rest.1,
+  )
+
+-- the fields take the data size that stands before them
+unfoldable pub way_at : List (List ℕ) → Place → List ℕ → Read TileKind WayFields
+way_at tags corner bytes = do
+  told ← number bytes
+  way ← way_body_at tags corner told.1
+  fits ← want (told.0 + length way.1 == length told.1) size bytes
+  Ok way
+
+-- ---- tile
+
+-- the numbers of POIs and of ways of one zoom level
+unfoldable pub counts_at : List ℕ → Read TileKind (ℕ × ℕ)
+counts_at bytes = do
+  pois ← number bytes
+  ways ← number pois.1
+  Ok ((pois.0, ways.0), ways.1)
+
+abbrev pub level_of : List PoiFields × List WayFields → Level
+level_of parts = record { pois = parts.0; ways = parts.1 }
+
+-- the zoom table, the first-way offset, the POIs, the ways, and nothing after them
+unfoldable pub levels_at : TagLists → Interval → Place → List ℕ → Result (List Level) (Stop TileKind)
+levels_at tags interval corner bytes = do
+  counts ← times (length (zooms interval)) counts_at bytes
+  told ← number counts.1
+  pois ← each (λ c. times c.0 (poi_at tags.poi corner)) counts.0 told.1
+  fits ← want (told.0 + length pois.1 == length told.1) offset counts.1
+  ways ← each (λ c. times c.1 (way_at tags.way corner)) counts.0 pois.1
+  nothing ← want (length ways.1 == 0) TileKind.left ways.1
+  Ok (map level_of (zip pois.0 ways.0))
+
+abbrev pub placed : {X : Type 0} → ℕ → Result X (Stop TileKind) → Result X TileFault
+placed total (Ok x) = Ok x
+placed total (Err e) = Err (record { at = total - e.left; kind = e.kind })
+
+-- empty bytes are a tile without members
+abbrev pub shown_at : TagLists → Interval → Place → List ℕ → Result (List Listed) (Stop TileKind)
+shown_at tags interval corner [] = Ok []
+shown_at tags interval corner (b ∷ bytes) = do
+  levels ← levels_at tags interval corner (b ∷ bytes)
+  Ok (shown_levels tags interval levels)
+
+unfoldable pub read_tile_from : Place → TagLists → Interval → List ℕ → Result (List Listed) TileFault
+read_tile_from corner tags interval bytes = placed (length bytes) (shown_at tags interval corner bytes)
+
+-- the records of a tile in order, or the first field without a spelling
+unfoldable pub read_tile : TagLists → TilePlace → List ℕ → Result (List Listed) TileFault
+read_tile tags tile bytes = read_tile_from (tile_corner tile) tags tile.interval bytes
+
+abbrev pub fault_of : {X E : Type 0} → Result X E → Option E
+fault_of (Ok x) = None
+fault_of (Err e) = Some e
+
+-- the first field without a spelling
+unfoldable pub tile_fault : TagLists → TilePlace → List ℕ → Option TileFault
+tile_fault tags tile bytes = fault_of (read_tile tags tile bytes)
+
+-- ---- the grammar
+
+abbrev pub IsText : List ℕ → Type 0
+IsText bytes = (length bytes < 2 ^ 63) × IsTrue (is_utf8 bytes)
+
+abbrev pub IsInRange : Place → Type 0
+IsInRange p = IsTrue (is_in_32 p.lat) × IsTrue (is_in_32 p.lon)
+
+-- a value of a tag of this kind
+abbrev pub IsOfKind : ValueKind → KeptValue → Type 0
+IsOfKind ValueKind.none KeptValue.plain = ⊤
+IsOfKind ValueKind.byte (KeptValue.byte n) = IsTrue (lies_within (negsuc 127) (pos 127) n)
+IsOfKind ValueKind.short (KeptValue.short n) = IsTrue (lies_within (negsuc 32767) (pos 32767) n)
+IsOfKind ValueKind.int (KeptValue.int n) = IsTrue (is_in_32 n)
+IsOfKind ValueKind.text (KeptValue.text bytes) = IsText bytes
+IsOfKind _ _ = ⊥
+
+-- a tag of the list, with a value of its kind
+abbrev pub IsKeptOf : List (List ℕ) → Kept → Type 0
+IsKeptOf tags k = (k.id < length tags) × (k.id < 2 ^ 63) × IsOfKind (value_kind (tag_at tags k.id)) k.value
+
+-- what a POI can tell: tags in any order, and unnamed flag bits
+pub record IsPoi (tags : List (List ℕ)) (p : PoiFields) : Type 0 where
+  pub place : IsInRange p.place
+  pub layer : IsTrue (lies_within (negsuc 4) (pos 5) p.layer)
+  pub few : length p.tags < 16
+  pub kept : AllByRecursion (IsKeptOf tags) p.tags
+  pub other : p.other < 32
+  pub name : IfSome p.name IsText
+  pub house : IfSome p.house IsText
+  pub height : IfSome p.height (λ n. IsTrue (is_in_32 n))
+
+-- two places at least
+abbrev pub IsRing : List Place → Type 0
+IsRing ring = (2 ≤ length ring) × (length ring < 2 ^ 63) × AllByRecursion IsInRange ring
+
+-- one ring at least
+abbrev pub IsBlock : List (List Place) → Type 0
+IsBlock rings = (1 ≤ length rings) × (length rings < 2 ^ 63) × AllByRecursion IsRing rings
+
+-- what a way can tell: besides, any bitmap, either delta kind, and any number of data blocks from 1 where it is told
+pub record IsWay (tags : List (List ℕ)) (w : WayFields) : Type 0 where
+  pub bits : w.bits < 2 ^ 16
+  pub layer : IsTrue (lies_within (negsuc 4) (pos 5) w.layer)
+  pub few : length w.tags < 16
+  pub kept : AllByRecursion (IsKeptOf tags) w.tags
+  pub other : w.other < 4
+  pub name : IfSome w.name IsText
+  pub house : IfSome w.house IsText
+  pub reference : IfSome w.reference IsText
+  pub label : IfSome w.label IsInRange
+  pub single : w.counted ≡ false → length w.blocks ≡ 1
+  pub counted : (1 ≤ length w.blocks) × (length w.blocks < 2 ^ 63)
+  pub blocks : AllByRecursion IsBlock w.blocks
+
+pub record IsLevel (tags : TagLists) (level : Level) : Type 0 where
+  pub pois : AllByRecursion (IsPoi tags.poi) level.pois
+  pub ways : AllByRecursion (IsWay tags.way) level.ways
+  pub counts : (length level.pois < 2 ^ 63) × (length level.ways < 2 ^ 63)
+
+-- the bytes are a tile that tells these levels, one for each zoom level of the interval
+pub record SpellsLevels (tags : TagLists) (interval : Interval) (corner : Place) (bytes : List ℕ) (levels : List Level) : Type 0 where
+  pub each : AllByRecursion (IsLevel tags) levels
+  pub all : length levels ≡ length (zooms interval)
+  pub spelt : bytes ≡ levels_bytes corner levels
+  pub small : length bytes < 2 ^ 63
+
+-- the bytes spell these records
+abbrev pub ReadsTile : TagLists → TilePlace → List ℕ → List Listed → Type 0
+ReadsTile tags tile [] shown = shown ≡ []
+ReadsTile tags tile (b ∷ bytes) shown =
+    (levels : List Level) × SpellsLevels tags tile.interval (tile_corner tile) (b ∷ bytes) levels × (shown ≡ shown_levels tags tile.interval levels)

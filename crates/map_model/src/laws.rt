@@ -1,0 +1,64 @@
+//! Laws of the definitions.
+
+ghost use Rattle.std.specs.Prelude.{◌≡◌, ℕ, ℤ, Bool, ◌≤◌, ◌<◌, ◌*◌, ◌^◌, ◌≤ℤ◌, int_le, false, List, ◌∷◌, ◌++◌, length, map, Ok};
+ghost use Rattle.byteorder.specs.Endian.{big_number};
+ghost use Rattle.mf_base.specs.declared.place.Rect.{Rect};
+ghost use Rattle.mf_base.specs.declared.tile.TilePlace.{TilePlace};
+ghost use Rattle.feature_model.specs.Features.{Feature};
+ghost use Rattle.map_model.specs.Mercator.{IsRoot, isqrt, edge_lat, fine_row, IsFineRow};
+ghost use Rattle.map_model.specs.Tiles.{in_order, members};
+ghost use Rattle.map_model.specs.Layout.{levels_bytes};
+ghost use Rattle.map_model.specs.TileBytes.{tile_corner, tile_bytes, written_levels};
+ghost use Rattle.map_model.specs.Listed.{TagLists, Listed, shown_levels, listed};
+ghost use Rattle.map_model.specs.TileReading.{IsLevel, ReadsTile, read_tile};
+ghost use Rattle.std.specs.List.{AllByRecursion};
+ghost use Rattle.map_model.specs.SubFile.{Piece, entry_bytes, index_bytes, sub_file_of, sub_file_size};
+ghost use Rattle.map_model.specs.Header.{HeadSettings, SubFile, header_size, header_bytes};
+ghost use Rattle.map_model.specs.Listing.{entry_of};
+
+/// Each number has one root, and it is `isqrt`.
+#[tactic(auto, using(crate::proofs::MercatorLemmas::root_laws))]
+pub fn one_root()
+    ensures root { (v : ℕ) → IsRoot v (isqrt v) }
+    ensures only { (v r s : ℕ) → IsRoot v r → IsRoot v s → r ≡ s }
+{}
+
+/// The edges of the rows never rise, so a row is found between two of them.
+#[tactic(auto, using(crate::proofs::MercatorLemmas::row_laws))]
+pub fn row_between_edges()
+    ensures falls { (j k : ℕ) → j ≤ k → edge_lat k ≤ℤ edge_lat j }
+    ensures found { (lat : ℤ) (k : ℕ) → IsFineRow lat k → fine_row lat ≡ k }
+    ensures none { (lat : ℤ) → int_le lat (edge_lat 0) ≡ false → fine_row lat ≡ 0 }
+{}
+
+/// The bytes of a tile whose members stand in order are laid out by zoom levels, and tell each member.
+#[tactic(auto, using(crate::proofs::LevelLemmas::level_laws))]
+pub fn tile_tells_its_members()
+    ensures spelt { (tile : TilePlace) (f : Feature) (fs : List Feature) → f ∷ fs ≡ in_order tile.interval (f ∷ fs)
+        → tile_bytes tile (f ∷ fs) ≡ levels_bytes (tile_corner tile) (written_levels tile (f ∷ fs)) }
+    ensures shown { (tags : TagLists) (tile : TilePlace) (fs : List Feature) → fs ≡ in_order tile.interval fs
+        → shown_levels tags tile.interval (written_levels tile fs) ≡ map (listed tags tile) fs }
+    ensures in_order { (features : List Feature) (tile : TilePlace) → members features tile ≡ in_order tile.interval (members features tile) }
+{}
+
+/// The sizes that offsets and starts are counted with are those of the bytes, and an entry of the index is read again.
+#[tactic(auto, using(crate::proofs::SizeLemmas::size_laws))]
+pub fn sizes()
+    ensures header { (set : HeadSettings) (box : Rect) (names : TagLists) (subs : List SubFile) → length subs ≡ length set.intervals
+        → length (header_bytes set box names subs) ≡ header_size set names }
+    ensures sub_file { (ps : List Piece) → length (sub_file_of ps) ≡ sub_file_size ps }
+    ensures index { (ps : List Piece) → length (index_bytes ps) ≡ 5 * length ps }
+    ensures entry { (water : Bool) (offset : ℕ) (rest : List ℕ) → offset < 2 ^ 39
+        → entry_of (big_number 5 (entry_bytes water offset ++ rest)) ≡ record { water = water; offset = offset } }
+{}
+
+/// A tile that spells some records is read as these, so it spells no others; and a tile of members is read as what is listed of them.
+#[tactic(auto, using(crate::proofs::RecordsAgain::reading_laws))]
+pub fn tile_is_read_again()
+    ensures read { (names : TagLists) (tile : TilePlace) (bytes : List ℕ) (shown : List Listed) → tile.x < 2 ^ tile.interval.base
+        → ReadsTile names tile bytes shown → read_tile names tile bytes ≡ Ok shown }
+    ensures members { (names : TagLists) (tile : TilePlace) (f : Feature) (fs : List Feature) → tile.x < 2 ^ tile.interval.base
+        → f ∷ fs ≡ in_order tile.interval (f ∷ fs)
+        → AllByRecursion (IsLevel names) (written_levels tile (f ∷ fs)) → length (tile_bytes tile (f ∷ fs)) < 2 ^ 63
+        → read_tile names tile (tile_bytes tile (f ∷ fs)) ≡ Ok (map (listed names tile) (f ∷ fs)) }
+{}

@@ -1,0 +1,6 @@
+pub mod Vbe
+pub mod Runs
+pub mod NumberLemmas
+pub mod Compute
+pub mod Roots
+pub mod WordLaws

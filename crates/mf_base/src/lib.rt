@@ -1,0 +1,11 @@
+//! Plain types and the rules that every layer shares.
+//!
+//! The types are `place`, `kind`, `kept`, `tile` and `number`. The rules stand in `specs/`.
+#![tactic(auto)]
+
+pub mod kept;
+pub mod kind;
+pub mod laws;
+pub mod number;
+pub mod place;
+pub mod tile;

@@ -1,0 +1,203 @@
+-- The front of bytes is a blob exactly where it is spelled so.
+use Rattle.std.proofs.Common.{◌≡◌, ◌≢◌, ◌==◌, ℕ, ◌+◌, ◌<◌, ◌≤◌, List, [], ◌++◌, length, take, drop, refl, sym, ap, subst, ◌∙◌, arith, inl, inr, false, cond, Ok, Option, Some, None, codes, MatchOption, append-nil}
+use Rattle.std.specs.Prelude.{option_map, bytes_eq}
+use Rattle.std.proofs.lemmas.Bool.{cases_lt, lt-ltb, le-leb, leb-true, ltb-true, eqb-true, eq-eqb, cases_Bool}
+use Rattle.std.proofs.lemmas.List.{take_at, drop_at, length-take, length-drop, length-append, append_assoc, length-take-le, take-take, get_or-take, get_or_past}
+use Rattle.byteorder.specs.Endian.{big_number, big_bytes}
+use Rattle.std.specs.Cmp.Lexicographic.{bytes_decides}
+use Rattle.byteorder.specs.Numbers.{big_number-reads_back, length-bytes_high_first}
+use Rattle.mf_base.specs.Spelling.{be}
+use Rattle.osm_model.specs.Reading.{◌>>=◌}
+use Rattle.osm_model.specs.Wire.{Field, IsMessage}
+use Rattle.osm_model.specs.Tables.{FitsTable, message, blob_header, blob, once_of, number_of}
+use Rattle.osm_model.specs.Frames.{IsBytes, Content, header, primitive, unread, type_of, header_limit, blob_limit, offset_limit, IsBlobHeader, IsBlob, HoldsContent, SpellsFrame, header_wire, blob_wire, no_type, no_size, compressed, no_data, raw_size, whole_part, raw_size_fault, raw_bytes, content_in, frame_front}
+use Rattle.osm_model.proofs.Steps.{chosen, ok_is, bind_ok, require_ok, told_ok, ok_or_ok, refuse_ok}
+use Rattle.osm_model.proofs.FieldLaws.{split_take}
+use Rattle.osm_model.proofs.BigBytes.{big_bytes-big_number}
+use Rattle.osm_model.proofs.TableMessageLaws.{message_is, message_found}
+use Rattle.osm_model.proofs.TableLaws.{some_no_none, true_no_false}
+
+-- ---- the Blob
+
+size_none : (o : Option ℕ) (found : ℕ) → MatchOption o (Unit {0}) (λ size. size ≡ found) → raw_size_fault o found ≡ None
+size_none None found h = refl
+size_none (Some told) found h = ap (λ b. cond b None (Some (raw_size told found))) (eq-eqb told found h)
+
+none_size : (o : Option ℕ) (found : ℕ) → raw_size_fault o found ≡ None → MatchOption o (Unit {0}) (λ size. size ≡ found)
+none_size None found e = tt
+none_size (Some told) found e =
+    elim (cases_Bool (told == found)) [
+      | inl same ↦ eqb-true told found same
+      | inr wrong ↦ absurd (some_no_none (raw_size told found) (ap (λ b. cond b None (Some (raw_size told found))) (sym wrong) ∙ e))
+    ]
+
+pub raw_is : (raw b : List ℕ) → IsBlob raw b → raw_bytes b ≡ Ok raw
+unfolding raw_bytes
+raw_is raw b h =
+    rw (message_is blob b h.parts h.spelled h.fits) (rw h.plain (rw h.held (rw (size_none (number_of 2 h.parts) (length raw) h.told) refl)))
+
+no_map : {A B : Type 0} (f : A → B) (o : Option A) → option_map f o ≡ None → o ≡ None
+no_map f None e = refl
+no_map f (Some x) e = absurd (some_no_none (f x) e)
+
+pub raw_found : (raw b : List ℕ) → raw_bytes b ≡ Ok raw → IsBlob raw b
+unfolding raw_bytes
+raw_found raw b e =
+    let (parts, read, behind_parts) = bind_ok _ _ _ e in
+    let (u, plain, behind_plain) = bind_ok _ _ _ behind_parts in
+    let (found, held, behind_held) = bind_ok _ _ _ behind_plain in
+    let (v, told, last) = bind_ok _ _ _ behind_held in
+    let same = ok_is _ _ last in
+    let is = message_found blob b parts (told_ok blob_wire (message blob b) parts read) in
+    let found_is : IsBlob found b = record { parts = parts; spelled = is.0; fits = is.1; plain = no_map compressed _ (refuse_ok _ u plain); held = ok_or_ok _ no_data found held; told = none_size _ _ (refuse_ok _ v told) } in
+    subst (λ r. IsBlob r b) same found_is
+
+-- ---- the whole blob
+
+frame-ok : (at : ℕ) (bytes size head : List ℕ) (n : ℕ) (parts : List Field) (kind : List ℕ) (m : ℕ) (body : List ℕ) (c : Content)
+    → at < offset_limit → whole_part 4 bytes ≡ Ok size → big_number 4 size ≡ n → n ≤ header_limit → whole_part n (drop 4 bytes) ≡ Ok head
+    → message blob_header head ≡ Ok parts → once_of 1 parts ≡ Some kind → number_of 3 parts ≡ Some m → m ≤ blob_limit
+    → whole_part m (drop (4 + n) bytes) ≡ Ok body → content_in kind body ≡ Ok c → frame_front at bytes ≡ Ok (c, 4 + n + m)
+unfolding frame_front
+frame-ok at bytes size head n parts kind m body c near sized number small headed read named told few bodied held =
+    rw (lt-ltb at offset_limit near) (rw sized (rw number (rw (le-leb n header_limit small) (rw headed (rw read (rw named (rw told (rw (le-leb m blob_limit few) (rw bodied (rw held refl))))))))))
+
+part-ok : (p q : List ℕ) (n : ℕ) → length p ≡ n → whole_part n (p ++ q) ≡ Ok p
+part-ok p q n size = rw (le-leb n (length (p ++ q)) (omega (arith, size, length-append p q))) (ap Ok (take_at p q n size))
+
+part_found : (n : ℕ) (bytes p : List ℕ) → whole_part n bytes ≡ Ok p → (n ≤ length bytes) × (take n bytes ≡ p)
+part_found n bytes p e = let (u, tested, rest) = bind_ok _ _ _ e in (leb-true _ _ (require_ok _ _ u tested), ok_is _ _ rest)
+
+eq_false : (a b : List ℕ) → a ≢ b → bytes_eq a b ≡ false
+eq_false a b differ = elim (cases_Bool (bytes_eq a b)) [ inl same ↦ absurd (differ ((bytes_decides a b).0 same)) | inr wrong ↦ wrong ]
+
+false_ne : (a b : List ℕ) → bytes_eq a b ≡ false → a ≢ b
+false_ne a b wrong e = true_no_false (bytes_eq a b) ((bytes_decides a b).1 e) wrong
+
+content_is : (c : Content) (b : List ℕ) → HoldsContent c b → content_in (type_of c) b ≡ Ok c
+content_is (header raw) b h = ap (λ r. r >>= λ x. Ok (header x)) (raw_is raw b h)
+content_is (primitive raw) b h = ap (λ r. r >>= λ x. Ok (primitive x)) (raw_is raw b h)
+content_is (unread kind) b h = rw (eq_false kind (codes "OSMHeader") h.0) (rw (eq_false kind (codes "OSMData") h.1) refl)
+
+content_found : (kind b : List ℕ) (c : Content) → content_in kind b ≡ Ok c → (type_of c ≡ kind) × HoldsContent c b
+content_found kind b c e =
+    elim (chosen (bytes_eq kind (codes "OSMHeader")) _ _ _ e) [
+      | inl is_header ↦
+          let (raw, read, rest) = bind_ok _ _ _ is_header.1 in
+          subst (λ x. (type_of x ≡ kind) × HoldsContent x b) (ok_is _ _ rest) (sym ((bytes_decides kind (codes "OSMHeader")).0 is_header.0), raw_found raw b read)
+      | inr no_header ↦
+          elim (chosen (bytes_eq kind (codes "OSMData")) _ _ _ no_header.1) [
+            | inl is_data ↦
+                let (raw, read, rest) = bind_ok _ _ _ is_data.1 in
+                subst (λ x. (type_of x ≡ kind) × HoldsContent x b) (ok_is _ _ rest) (sym ((bytes_decides kind (codes "OSMData")).0 is_data.0), raw_found raw b read)
+            | inr no_data_type ↦
+                subst (λ x. (type_of x ≡ kind) × HoldsContent x b) (ok_is _ _ no_data_type.1) (refl, (false_ne _ _ no_header.0, false_ne _ _ no_data_type.0))
+          ]
+    ]
+
+length-be : (n : ℕ) → length (be 4 n) ≡ 4
+unfolding be
+length-be n = length-bytes_high_first 4 n
+
+number-be : (n : ℕ) → n ≤ header_limit → big_number 4 (be 4 n) ≡ n
+unfolding be
+number-be n small = subst (λ b. big_number 4 b ≡ n) (append-nil (big_bytes 4 n)) (big_number-reads_back 4 n [] (omega (arith, small)))
+
+pub frame_reads : (at : ℕ) (c : Content) (b rest : List ℕ) → at < offset_limit → SpellsFrame c b → frame_front at (b ++ rest) ≡ Ok (c, length b)
+frame_reads at c b rest near h =
+    let four = length-be (length h.head) in
+    let parts : b ++ rest ≡ be 4 (length h.head) ++ (h.head ++ (h.body ++ rest)) =
+    ap (λ x. x ++ rest) h.whole ∙ append_assoc (be 4 (length h.head) ++ h.head) h.body rest ∙ append_assoc (be 4 (length h.head)) h.head (h.body ++ rest) in
+    let behind_size : drop 4 (b ++ rest) ≡ h.head ++ (h.body ++ rest) = ap (drop 4) parts ∙ drop_at (be 4 (length h.head)) _ 4 four in
+    let front : length (be 4 (length h.head) ++ h.head) ≡ 4 + length h.head = omega (arith, four, length-append (be 4 (length h.head)) h.head) in
+    let behind_head : drop (4 + length h.head) (b ++ rest) ≡ h.body ++ rest = ap (drop (4 + length h.head)) (ap (λ x. x ++ rest) h.whole ∙ append_assoc (be 4 (length h.head) ++ h.head) h.body rest) ∙ drop_at (be 4 (length h.head) ++ h.head) _ (4 + length h.head) front in
+    let sized = ap (whole_part 4) parts ∙ part-ok (be 4 (length h.head)) _ 4 four in
+    let headed = ap (whole_part (length h.head)) behind_size ∙ part-ok h.head _ (length h.head) refl in
+    let bodied = ap (whole_part (length h.body)) behind_head ∙ part-ok h.body rest (length h.body) refl in
+    let holds = h.head_holds in
+    let count : length b ≡ 4 + length h.head + length h.body = ap length h.whole ∙ length-append (be 4 (length h.head) ++ h.head) h.body ∙ ap (λ n. n + length h.body) front in
+    frame-ok at (b ++ rest) (be 4 (length h.head)) h.head (length h.head) holds.parts (type_of c) (length h.body) h.body c near sized (number-be (length h.head) h.head_size) h.head_size headed
+    (message_is blob_header h.head holds.parts holds.spelled holds.fits) holds.named holds.sized h.body_size bodied (content_is c h.body h.body_holds)
+    ∙ ap (λ n. Ok (c, n)) (sym count)
+
+-- what a blob that was found is
+pub record IsFrameFront (at : ℕ) (c : Content) (size : ℕ) (bytes : List ℕ) : Type 0 where
+  pub near : at < offset_limit
+  pub some : 0 < size
+  pub within : size ≤ length bytes
+  pub spelled : SpellsFrame c (take size bytes)
+
+small_take : (n : ℕ) (bytes : List ℕ) → IsBytes bytes → IsBytes (take n bytes)
+small_take n bytes small i =
+    elim (cases_lt i n) [
+      | inl lt ↦ rw (get_or-take n bytes i 0 lt) (small i)
+      | inr le ↦ rw (get_or_past (take n bytes) i 0 (omega (arith, length-take n bytes, le))) (omega arith)
+    ]
+
+be-number : (bytes : List ℕ) → IsBytes bytes → 4 ≤ length bytes → be 4 (big_number 4 (take 4 bytes)) ≡ take 4 bytes
+unfolding be
+be-number bytes small fits = big_bytes-big_number 4 (take 4 bytes) (small_take 4 bytes small) (omega (arith, length-take-le 4 bytes fits)) ∙ take-take 4 4 bytes (omega arith)
+
+positive : (n m : ℕ) → 0 < 4 + n + m
+positive n m = omega arith
+
+fits_within : (bytes : List ℕ) (n m : ℕ) → 4 ≤ length bytes → n ≤ length (drop 4 bytes) → m ≤ length (drop (4 + n) bytes) → (4 + n ≤ length bytes) × (4 + n + m ≤ length bytes)
+fits_within bytes n m four first second =
+    let left = length-drop 4 bytes in
+    let fits_one : 4 + n ≤ length bytes = omega arith in
+    let left_two = length-drop (4 + n) bytes in
+    (fits_one, omega arith)
+
+-- the bytes of a length, a head and a body that were taken one after another
+parts_whole : (bytes four head body : List ℕ) (n m : ℕ) → IsBytes bytes → big_number 4 four ≡ n → 4 ≤ length bytes → take 4 bytes ≡ four → n ≤ length (drop 4 bytes) → take n (drop 4 bytes) ≡ head → m ≤ length (drop (4 + n) bytes) → take m (drop (4 + n) bytes) ≡ body → take (4 + n + m) bytes ≡ be 4 (length head) ++ head ++ body
+parts_whole bytes four head body n m small number fits first fits_head second fits_body third =
+    let head_len : length head ≡ n = ap length (sym second) ∙ length-take-le n (drop 4 bytes) fits_head in
+    let four_is : be 4 n ≡ four = ap (be 4) (sym number) ∙ ap (λ x. be 4 (big_number 4 x)) (sym first) ∙ be-number bytes small fits ∙ first in
+    let within = fits_within bytes n m fits fits_head fits_body in
+    let front : take (4 + n) bytes ≡ be 4 (length head) ++ head = split_take 4 n bytes within.0 ∙ ap (λ x. take 4 bytes ++ x) second ∙ ap (λ x. x ++ head) (first ∙ sym four_is ∙ ap (be 4) (sym head_len)) in
+    split_take (4 + n) m bytes within.1 ∙ ap (λ x. take (4 + n) bytes ++ x) third ∙ ap (λ x. x ++ body) front
+
+length_taken : (n : ℕ) (bytes p : List ℕ) → n ≤ length bytes → take n bytes ≡ p → length p ≡ n
+length_taken n bytes p fits e = ap length (sym e) ∙ length-take-le n bytes fits
+
+frame_from : (at : ℕ) (bytes four head body kind : List ℕ) (n m : ℕ) (parts : List Field) (c : Content) → IsBytes bytes → at < offset_limit → big_number 4 four ≡ n
+    → (4 ≤ length bytes) × (take 4 bytes ≡ four) → n ≤ header_limit → (n ≤ length (drop 4 bytes)) × (take n (drop 4 bytes) ≡ head)
+    → IsMessage head parts × FitsTable blob_header parts → once_of 1 parts ≡ Some kind → number_of 3 parts ≡ Some m → m ≤ blob_limit
+    → (m ≤ length (drop (4 + n) bytes)) × (take m (drop (4 + n) bytes) ≡ body) → (type_of c ≡ kind) × HoldsContent c body → IsFrameFront at c (4 + n + m) bytes
+frame_from at bytes four head body kind n m parts c small near number first few second read named told most third holds =
+    let head_len = length_taken n (drop 4 bytes) head second.0 second.1 in
+    let body_len = length_taken m (drop (4 + n) bytes) body third.0 third.1 in
+    let whole = parts_whole bytes four head body n m small number first.0 first.1 second.0 second.1 third.0 third.1 in
+    let head_is : IsBlobHeader (type_of c) (length body) head = record { parts = parts; spelled = read.0; fits = read.1; named = named ∙ ap Some (sym holds.0); sized = told ∙ ap Some (sym body_len) } in
+    record {
+      near = near;
+      some = positive n m;
+      within = (fits_within bytes n m first.0 second.0 third.0).1;
+      spelled = record { head = head; body = body; whole = whole; head_size = subst (λ k. k ≤ header_limit) (sym head_len) few; body_size = subst (λ k. k ≤ blob_limit) (sym body_len) most; head_holds = head_is; body_holds = holds.1 };
+    }
+
+pub frame_found : (at : ℕ) (bytes : List ℕ) (c : Content) (size : ℕ) → IsBytes bytes → frame_front at bytes ≡ Ok (c, size) → IsFrameFront at c size bytes
+unfolding frame_front
+frame_found at bytes c size small e =
+    let (u, near, r1) = bind_ok _ _ _ e in
+    let (four, sized, r2) = bind_ok _ _ _ r1 in
+    let (v, few, r3) = bind_ok _ _ _ r2 in
+    let (head, headed, r4) = bind_ok _ _ _ r3 in
+    let (parts, read, r5) = bind_ok _ _ _ r4 in
+    let (kind, named, r6) = bind_ok _ _ _ r5 in
+    let (m, told, r7) = bind_ok _ _ _ r6 in
+    let (w, most, r8) = bind_ok _ _ _ r7 in
+    let (body, bodied, r9) = bind_ok _ _ _ r8 in
+    let (content, held, last) = bind_ok _ _ _ r9 in
+    let pair = ok_is _ _ last in
+    let found : IsFrameFront at content (4 + big_number 4 four + m) bytes =
+    frame_from at bytes four head body kind (big_number 4 four) m parts content small (ltb-true _ _ (require_ok _ _ u near)) refl (part_found 4 bytes four sized)
+    (leb-true _ _ (require_ok _ _ v few)) (part_found (big_number 4 four) (drop 4 bytes) head headed) (message_found blob_header head parts (told_ok header_wire (message blob_header head) parts read))
+    (ok_or_ok _ no_type kind named) (ok_or_ok _ no_size m told) (leb-true _ _ (require_ok _ _ w most)) (part_found m (drop (4 + big_number 4 four) bytes) body bodied) (content_found kind body content held) in
+    subst (λ x. IsFrameFront at x size bytes) (ap (λ p. p.0) pair) (subst (λ k. IsFrameFront at content k bytes) (ap (λ p. p.1) pair) found)
+
+-- a blob takes at least four bytes
+pub some_bytes : (c : Content) (b : List ℕ) → SpellsFrame c b → 0 < length b
+some_bytes c b h =
+    let count : length b ≡ length (be 4 (length h.head) ++ h.head) + length h.body = ap length h.whole ∙ length-append (be 4 (length h.head) ++ h.head) h.body in
+    omega (arith, count, length-append (be 4 (length h.head)) h.head, length-be (length h.head))

@@ -1,0 +1,206 @@
+-- Kinds do not go back, and ids rise.
+use Rattle.std.proofs.Common.{◌≡◌, ◌==◌, ◌&&◌, ℕ, ◌<◌, ◌≤◌, List, [], ◌∷◌, ◌++◌, refl, sym, subst, inl, inr, true, false, Bool, cond, Result, Ok, Err, Option, Some, None, ℤ, pos, negsuc, nat_lt, length}
+use Rattle.std.specs.Prelude.{nat_abs, int_le, flat_map}
+use Rattle.std.specs.List.{AllByRecursion, list_all}
+use Rattle.std.proofs.lemmas.Bool.{leb-false, ltb-false, false≢true}
+use Rattle.mf_base.specs.declared.kind.EntityKind.{EntityKind}
+use Rattle.mf_base.specs.declared.kind.EntityKind.TheVariants as kinds
+use Rattle.osm_model.specs.Reading.{Reading, ◌>>=◌, require, refuse, told_as}
+use Rattle.osm_model.specs.Wire.{Field}
+use Rattle.osm_model.specs.Tables.{message, dense_nodes, node_table, way_table, relation_table, MessageFault, counted_bytes, packed_of, signed_of}
+use Rattle.osm_model.specs.Blocks.{BlockHead, Block, is_coordinate, place_of}
+use Rattle.osm_model.specs.Entities.{signed, int64_id, coordinate, range, columns, wire, with_list, empty_run, is_signed64, tags_of, run_tags, column, members_of, runs_of, zip_three, Tag, Member, Entity, node, way, relation, EntityFault, Object, TagRun, node_of, node_object, dense_node, with_runs, dense_columns, dense_objects, way_of, way_object, relation_of, relation_object, objects_at, field_objects, group_fields, group_objects, block_objects, Order, rank, last_id, with_entity, order_behind, order_fault, placed, in_order, kind_of, id_of, IsOrdered, kind_order, out_of_order}
+use Rattle.osm_model.proofs.Steps.{bind_ok, ok_is, refuse_ok, chosen, err_is_no_ok}
+use Rattle.osm_model.proofs.TableLaws.{some_no_none}
+use Rattle.osm_model.proofs.OrderLaws.{in_order-nil, in_order-err, in_order-refused, in_order-next, order_behind-nil, order_behind-cons}
+
+-- what an object is has its kind and its id
+abbrev pub IsItself : EntityKind → ℤ → Result Entity EntityFault → Type 0
+IsItself kind id told = (e : Entity) → told ≡ Ok e → (kind_of e ≡ kind) × (id_of e ≡ nat_abs id)
+
+abbrev pub Tells : Result Object EntityFault → Type 0
+Tells told = (object : Object) → told ≡ Ok object → IsItself object.kind object.id object.entity
+
+tells_err : (fault : EntityFault) → Tells (Err fault)
+tells_err fault object h = absurd (err_is_no_ok fault object h)
+
+abbrev found_node : BlockHead → ℤ → ℤ → ℤ → List Tag → Entity
+found_node head id lat lon tags = node (record { id = nat_abs id; place = place_of head lat lon; tags = tags })
+
+node_is : (head : BlockHead) (id lat lon : ℤ) (told : Result (List Tag) EntityFault) → IsItself kinds.Node id (node_of head id lat lon told)
+node_is head id lat lon (Ok tags) e h =
+    let (u, tested, last) = bind_ok (require (is_coordinate head lat lon) coordinate) (λ v. Ok (found_node head id lat lon tags)) e h in
+    let P : Entity → Type 0 = λ x. (kind_of x ≡ kinds.Node) × (id_of x ≡ nat_abs id) in
+    subst P (ok_is (found_node head id lat lon tags) e last) (refl, refl)
+node_is head id lat lon (Err fault) e h = let (u, tested, last) = bind_ok (require (is_coordinate head lat lon) coordinate) (λ v. Err fault) e h in absurd (err_is_no_ok fault e last)
+
+way_is : (id : ℤ) (refs : List ℤ) (told : Result (List Tag) EntityFault) → IsItself kinds.Way id (way_of id refs told)
+way_is id refs (Ok tags) e h =
+    let found : Entity = way (record { id = nat_abs id; refs = refs; tags = tags }) in
+    let (u, tested, last) = bind_ok (require (list_all is_signed64 refs) range) (λ v. Ok found) e h in
+    let P : Entity → Type 0 = λ x. (kind_of x ≡ kinds.Way) × (id_of x ≡ nat_abs id) in
+    subst P (ok_is found e last) (refl, refl)
+way_is id refs (Err fault) e h = absurd (err_is_no_ok fault e h)
+
+relation_is : (id : ℤ) (members : Result (List Member) EntityFault) (told : Result (List Tag) EntityFault) → IsItself kinds.Relation id (relation_of id members told)
+relation_is id (Ok members) (Ok tags) e h =
+    let found : Entity = relation (record { id = nat_abs id; members = members; tags = tags }) in
+    let P : Entity → Type 0 = λ x. (kind_of x ≡ kinds.Relation) × (id_of x ≡ nat_abs id) in
+    subst P (ok_is found e h) (refl, refl)
+relation_is id (Err fault) (Ok tags) e h = absurd (err_is_no_ok fault e h)
+relation_is id members (Err fault) e h = absurd (err_is_no_ok fault e h)
+
+abbrev Consistent : Object → Type 0
+Consistent o = IsItself o.kind o.id o.entity
+
+abbrev node_at : Block → List Field → ℤ → ℤ → ℤ → Object
+node_at b parts id lat lon = record { kind = kinds.Node; id = id; entity = node_of b.head id lat lon (tags_of b.strings (packed_of 2 parts) (packed_of 3 parts)) }
+
+node_tells : (b : Block) (bytes : List ℕ) → Tells (node_object b bytes)
+unfolding node_object
+node_tells b bytes object h =
+    let (parts, read, r1) = bind_ok (told_as wire (message node_table bytes)) (λ p. signed 1 p >>= λ id. signed 8 p >>= λ lat. signed 9 p >>= λ lon. Ok (node_at b p id lat lon)) object h in
+    let (id, has_id, r2) = bind_ok (signed 1 parts) (λ i. signed 8 parts >>= λ lat. signed 9 parts >>= λ lon. Ok (node_at b parts i lat lon)) object r1 in
+    let (lat, has_lat, r3) = bind_ok (signed 8 parts) (λ y. signed 9 parts >>= λ lon. Ok (node_at b parts id y lon)) object r2 in
+    let (lon, has_lon, last) = bind_ok (signed 9 parts) (λ x. Ok (node_at b parts id lat x)) object r3 in
+    subst Consistent (ok_is (node_at b parts id lat lon) object last) (node_is b.head id lat lon (tags_of b.strings (packed_of 2 parts) (packed_of 3 parts)))
+
+abbrev way_at : Block → List Field → ℤ → Object
+way_at b parts id = record { kind = kinds.Way; id = id; entity = way_of id (column (signed_of 8 parts)) (tags_of b.strings (packed_of 2 parts) (packed_of 3 parts)) }
+
+way_tells : (b : Block) (bytes : List ℕ) → Tells (way_object b bytes)
+unfolding way_object
+way_tells b bytes object h =
+    let (parts, read, r1) = bind_ok (told_as wire (message way_table bytes)) (λ p. int64_id p >>= λ id. Ok (way_at b p id)) object h in
+    let (id, has_id, last) = bind_ok (int64_id parts) (λ i. Ok (way_at b parts i)) object r1 in
+    subst Consistent (ok_is (way_at b parts id) object last) (way_is id (column (signed_of 8 parts)) (tags_of b.strings (packed_of 2 parts) (packed_of 3 parts)))
+
+abbrev relation_at : Block → List Field → ℤ → Object
+relation_at b parts id = record { kind = kinds.Relation; id = id; entity = relation_of id (members_of b.strings (packed_of 8 parts) (signed_of 9 parts) (packed_of 10 parts)) (tags_of b.strings (packed_of 2 parts) (packed_of 3 parts)) }
+
+relation_tells : (b : Block) (bytes : List ℕ) → Tells (relation_object b bytes)
+unfolding relation_object
+relation_tells b bytes object h =
+    let (parts, read, r1) = bind_ok (told_as wire (message relation_table bytes)) (λ p. int64_id p >>= λ id. Ok (relation_at b p id)) object h in
+    let (id, has_id, last) = bind_ok (int64_id parts) (λ i. Ok (relation_at b parts i)) object r1 in
+    subst Consistent (ok_is (relation_at b parts id) object last) (relation_is id (members_of b.strings (packed_of 8 parts) (signed_of 9 parts) (packed_of 10 parts)) (tags_of b.strings (packed_of 2 parts) (packed_of 3 parts)))
+
+abbrev dense_at : Block → ℤ → ℤ → ℤ → TagRun → Object
+dense_at b id lat lon run = record { kind = kinds.Node; id = id; entity = node_of b.head id lat lon (run_tags b.strings run) }
+
+dense_tells : (b : Block) (n : ℤ × ℤ × ℤ) (run : TagRun) → Tells (dense_node b n run)
+dense_tells b (id, lat, lon) run object h =
+    let (u, tested, last) = bind_ok (require (is_signed64 id && is_signed64 lat && is_signed64 lon) range) (λ v. Ok (dense_at b id lat lon run)) object h in
+    subst Consistent (ok_is (dense_at b id lat lon run) object last) (node_is b.head id lat lon (run_tags b.strings run))
+
+abbrev AllTell : List (Result Object EntityFault) → Type 0
+AllTell objects = AllByRecursion Tells objects
+
+with_runs_tell : (b : Block) (ns : List (ℤ × ℤ × ℤ)) (runs : List TagRun) → AllTell (with_runs b ns runs)
+unfolding with_runs
+with_runs_tell b [] [] = tt
+with_runs_tell b [] (run ∷ runs) = (tells_err columns, tt)
+with_runs_tell b (n ∷ ns) [] = (dense_tells b n (empty_run with_list), with_runs_tell b ns [])
+with_runs_tell b (n ∷ ns) (run ∷ runs) = (dense_tells b n run, with_runs_tell b ns runs)
+
+either : (c : Bool) (xs ys : List (Result Object EntityFault)) → AllTell xs → AllTell ys → AllTell (cond c xs ys)
+either true xs ys h k = h
+either false xs ys h k = k
+
+columns_tell : (b : Block) (ids lats lons : List ℤ) (keys_vals : List ℕ) → AllTell (dense_columns b ids lats lons keys_vals)
+unfolding dense_columns
+columns_tell b ids lats lons keys_vals =
+    either ((length ids == length lats) && (length ids == length lons)) (with_runs b (zip_three (column ids) (column lats) (column lons)) (runs_of (length ids) keys_vals)) (Err columns ∷ [])
+    (with_runs_tell b (zip_three (column ids) (column lats) (column lons)) (runs_of (length ids) keys_vals)) (tells_err columns, tt)
+
+abbrev dense_parts : Block → Result (List Field) MessageFault → List (Result Object EntityFault)
+dense_parts b r = elim r [ Ok parts ↦ dense_columns b (signed_of 1 parts) (signed_of 8 parts) (signed_of 9 parts) (packed_of 10 parts) | Err fault ↦ Err (wire fault) ∷ [] ]
+
+dense_parts_tell : (b : Block) (r : Result (List Field) MessageFault) → AllTell (dense_parts b r)
+dense_parts_tell b (Ok parts) = columns_tell b (signed_of 1 parts) (signed_of 8 parts) (signed_of 9 parts) (packed_of 10 parts)
+dense_parts_tell b (Err fault) = (tells_err (wire fault), tt)
+
+dense_objects_tell : (b : Block) (bytes : List ℕ) → AllTell (dense_objects b bytes)
+unfolding dense_objects
+dense_objects_tell b bytes = dense_parts_tell b (message dense_nodes bytes)
+
+at_tell : (b : Block) (k : ℕ) (bytes : List ℕ) → AllTell (objects_at b k bytes)
+at_tell b k bytes =
+    either (k == 1) (node_object b bytes ∷ []) _ (node_tells b bytes, tt)
+    (either (k == 2) (dense_objects b bytes) _ (dense_objects_tell b bytes)
+    (either (k == 3) (way_object b bytes ∷ []) _ (way_tells b bytes, tt)
+    (either (k == 4) (relation_object b bytes ∷ []) [] (relation_tells b bytes, tt) tt)))
+
+abbrev of_bytes : Block → ℕ → Option (List ℕ) → List (Result Object EntityFault)
+of_bytes b k o = elim o [ None ↦ [] | Some bytes ↦ objects_at b k bytes ]
+
+of_bytes_tell : (b : Block) (k : ℕ) (o : Option (List ℕ)) → AllTell (of_bytes b k o)
+of_bytes_tell b k None = tt
+of_bytes_tell b k (Some bytes) = at_tell b k bytes
+
+all-append : (xs ys : List (Result Object EntityFault)) → AllTell xs → AllTell ys → AllTell (xs ++ ys)
+all-append [] ys h k = k
+all-append (x ∷ xs) ys h k = (h.0, all-append xs ys h.1 k)
+
+all-flat_map : {X : Type 0} (f : X → List (Result Object EntityFault)) → ((x : X) → AllTell (f x)) → (xs : List X) → AllTell (flat_map f xs)
+all-flat_map f h [] = tt
+all-flat_map f h (x ∷ xs) = all-append (f x) (flat_map f xs) (h x) (all-flat_map f h xs)
+
+abbrev of_fields : Block → Result (List Field) EntityFault → List (Result Object EntityFault)
+of_fields b r = elim r [ Ok parts ↦ flat_map (field_objects b) parts | Err fault ↦ Err fault ∷ [] ]
+
+of_fields_tell : (b : Block) (r : Result (List Field) EntityFault) → AllTell (of_fields b r)
+of_fields_tell b (Ok parts) = all-flat_map (field_objects b) (λ f. of_bytes_tell b f.number (counted_bytes f.value)) parts
+of_fields_tell b (Err fault) = (tells_err fault, tt)
+
+group_tell : (b : Block) (bytes : List ℕ) → AllTell (group_objects b bytes)
+unfolding group_objects
+group_tell b bytes = of_fields_tell b (group_fields bytes)
+
+pub block_tell : (b : Block) → AllTell (block_objects b)
+unfolding block_objects
+block_tell b = all-flat_map (group_objects b) (group_tell b) b.groups
+
+-- ---- in order
+
+below_id : (id : ℤ) (n : ℕ) → int_le id (pos n) ≡ false → n < nat_abs id
+below_id (pos m) n e = leb-false m n e
+below_id (negsuc m) n e = absurd (false≢true (sym e))
+
+order_parts : (order : Order) (kind : EntityKind) (id : ℤ) → order_fault order kind id ≡ None → (rank order.kind ≤ rank kind) × (last_id order kind < nat_abs id)
+order_parts order kind id e =
+    elim (chosen (nat_lt (rank kind) (rank order.kind)) (Some kind_order) (cond (int_le id (pos (last_id order kind))) (Some (out_of_order (last_id order kind) id)) None) None e) [
+      | inl back ↦ absurd (some_no_none kind_order back.1)
+      | inr on ↦
+          elim (chosen (int_le id (pos (last_id order kind))) (Some (out_of_order (last_id order kind) id)) None None on.1) [
+            | inl low ↦ absurd (some_no_none (out_of_order (last_id order kind) id) low.1)
+            | inr above ↦ (ltb-false (rank kind) (rank order.kind) on.0, below_id id (last_id order kind) above.0)
+          ]
+    ]
+
+placed_parts : (order : Order) (object : Object) (e : Entity) → Consistent object → placed order object ≡ Ok e → (rank order.kind ≤ rank (kind_of e)) × (last_id order (kind_of e) < id_of e)
+placed_parts order object e told h =
+    let (u, tested, rest) = bind_ok (refuse (order_fault order object.kind object.id)) (λ v. object.entity) e h in
+    let parts = order_parts order object.kind object.id (refuse_ok (order_fault order object.kind object.id) u tested) in
+    let same = told e rest in
+    let kind_first : (rank order.kind ≤ rank (kind_of e)) × (last_id order (kind_of e) < nat_abs object.id) = subst (λ k. (rank order.kind ≤ rank k) × (last_id order k < nat_abs object.id)) (sym same.0) parts in
+    (kind_first.0, subst (λ n. last_id order (kind_of e) < n) (sym same.1) kind_first.1)
+
+pub in_order-rises : (order : Order) (objects : List (Result Object EntityFault)) → AllTell objects → IsOrdered order (in_order order objects).items
+in_order-rises order [] h = subst (λ r. IsOrdered order r.items) (sym (in_order-nil order)) tt
+in_order-rises order (Err fault ∷ others) h = subst (λ (r : Reading Entity EntityFault). IsOrdered order r.items) (sym (in_order-err order fault others)) tt
+in_order-rises order (Ok object ∷ others) h = go (λ o. in_order-rises o others h.1) (placed order object) refl
+  where
+    go : ((o : Order) → IsOrdered o (in_order o others).items) → (r : Result Entity EntityFault) → placed order object ≡ r → IsOrdered order (in_order order (Ok object ∷ others)).items
+    go later (Err fault) e = subst (λ (r : Reading Entity EntityFault). IsOrdered order r.items) (sym (in_order-refused order object others fault e)) tt
+    go later (Ok entity) e =
+        let parts = placed_parts order object entity (h.0 object refl) e in
+        subst (λ (r : Reading Entity EntityFault). IsOrdered order r.items) (sym (in_order-next order object others entity e)) (parts.0, parts.1, later (with_entity order entity))
+
+pub block-rises : (order : Order) (b : Block) → IsOrdered order (in_order order (block_objects b)).items
+block-rises order b = in_order-rises order (block_objects b) (block_tell b)
+
+-- objects in two parts
+pub ordered-append : (order : Order) (xs ys : List Entity) → IsOrdered order xs → IsOrdered (order_behind order xs) ys → IsOrdered order (xs ++ ys)
+ordered-append order [] ys h k = subst (λ o. IsOrdered o ys) (order_behind-nil order) k
+ordered-append order (x ∷ xs) ys h k = (h.0, h.1, ordered-append (with_entity order x) xs ys h.2 (subst (λ o. IsOrdered o ys) (order_behind-cons order x xs) k))

@@ -1,0 +1,149 @@
+-- Header blocks, string tables and places: the OpenStreetMap wiki, "PBF Format", on HeaderBlock and PrimitiveBlock.
+use Rattle.std.specs.Prelude.{ℕ, Bool, not, ◌&&◌, ◌||◌, nat_le, List, length, Option, Some, None, option_map, ok_or, unwrap_or, position, Result, Ok, ℤ, pos, ◌+ℤ◌, ◌*ℤ◌, int_le, int_div, nat_abs, codes, bytes_eq}
+use Rattle.std.specs.List.{list_all}
+use Rattle.std.specs.Str.{is_utf8}
+use Rattle.mf_base.specs.declared.place.Place.{Place}
+use Rattle.mf_base.specs.declared.place.Rect.{Rect}
+use Rattle.osm_model.specs.Reading.{◌>>=◌, require, refuse, told_as}
+use Rattle.osm_model.specs.Wire.{Field, sint64, int64}
+use Rattle.osm_model.specs.Tables.{MessageFault, message, header_block, header_bbox, primitive_block, string_table, once_of, bytes_of, number_of}
+
+-- Why a HeaderBlock or the head of a PrimitiveBlock is refused.
+pub data BlockFault : Type 0 where
+  wire : MessageFault → BlockFault
+  -- the box lacks a side, a side is out of range, or a least is above its greatest
+  bad_box : BlockFault
+  -- a required feature that this project does not know
+  required_feature : BlockFault
+  no_strings : BlockFault
+  too_many_strings : BlockFault
+  -- the first entry that is no UTF-8
+  not_text : ℕ → BlockFault
+
+-- ---- places
+
+-- the greatest latitude and longitude, in nanodegrees
+abbrev pub latitude_limit : ℕ
+latitude_limit = 90000000000
+
+abbrev pub longitude_limit : ℕ
+longitude_limit = 180000000000
+
+-- nanodegrees within a limit on both sides of 0
+abbrev pub is_within : ℕ → ℤ → Bool
+is_within limit nano = nat_le (nat_abs nano) limit
+
+-- microdegrees of nanodegrees, towards zero
+abbrev pub micro : ℤ → ℤ
+micro nano = int_div nano (pos 1000)
+
+-- What a PrimitiveBlock says of its coordinates, in nanodegrees.
+pub record BlockHead : Type 0 where
+  pub granularity : ℤ
+  pub lat_offset : ℤ
+  pub lon_offset : ℤ
+
+-- the nanodegrees of a stored latitude and longitude
+abbrev pub lat_nano : BlockHead → ℤ → ℤ
+lat_nano head lat = head.lat_offset +ℤ head.granularity *ℤ lat
+
+abbrev pub lon_nano : BlockHead → ℤ → ℤ
+lon_nano head lon = head.lon_offset +ℤ head.granularity *ℤ lon
+
+-- the stored latitude and longitude lie on the earth
+abbrev pub is_coordinate : BlockHead → ℤ → ℤ → Bool
+is_coordinate head lat lon = is_within latitude_limit (lat_nano head lat) && is_within longitude_limit (lon_nano head lon)
+
+-- The place of a stored latitude and longitude, in microdegrees.
+unfoldable pub place_of : BlockHead → ℤ → ℤ → Place
+place_of head lat lon = record { lat = micro (lat_nano head lat); lon = micro (lon_nano head lon) }
+
+-- ---- the HeaderBlock
+
+-- the sides of a box in nanodegrees are on the earth and in order
+abbrev pub are_sides : ℤ → ℤ → ℤ → ℤ → Bool
+are_sides left right top bottom =
+    is_within longitude_limit left && is_within longitude_limit right && is_within latitude_limit top && is_within latitude_limit bottom
+    && int_le left right && int_le bottom top
+
+-- a side of a HeaderBBox
+abbrev pub side : ℕ → List Field → Result ℤ BlockFault
+side k sides = ok_or (option_map sint64 (number_of k sides)) bad_box
+
+-- the box of a HeaderBBox, in microdegrees
+unfoldable pub box_in : List ℕ → Result Rect BlockFault
+box_in bytes = do
+  sides ← told_as wire (message header_bbox bytes)
+  left ← side 1 sides
+  right ← side 2 sides
+  top ← side 3 sides
+  bottom ← side 4 sides
+  _ ← require (are_sides left right top bottom) bad_box
+  Ok (record { min_lat = micro bottom; min_lon = micro left; max_lat = micro top; max_lon = micro right })
+
+-- the box of a bbox, where there is one
+abbrev pub box_where : Option (List ℕ) → Result (Option Rect) BlockFault
+box_where None = Ok None
+box_where (Some bytes) = do
+  box ← box_in bytes
+  Ok (Some box)
+
+-- a required feature that this project knows
+abbrev pub is_known_feature : List ℕ → Bool
+is_known_feature feature = bytes_eq feature (codes "OsmSchema-V0.6") || bytes_eq feature (codes "DenseNodes")
+
+-- The box of a HeaderBlock, where it has one, or its first fault.
+unfoldable pub header_box : List ℕ → Result (Option Rect) BlockFault
+header_box raw = do
+  parts ← told_as wire (message header_block raw)
+  box ← box_where (once_of 1 parts)
+  _ ← require (list_all is_known_feature (bytes_of 4 parts)) required_feature
+  Ok box
+
+-- ---- the head of a PrimitiveBlock
+
+-- a string table has at most this many entries
+abbrev pub strings_limit : ℕ
+strings_limit = 4194304
+
+-- The granularity and the offsets of a PrimitiveBlock, or the first fault of its message.
+unfoldable pub block_head : List ℕ → Result BlockHead BlockFault
+block_head raw = do
+  parts ← told_as wire (message primitive_block raw)
+  Ok (record { granularity = int64 (unwrap_or (number_of 17 parts) 100); lat_offset = int64 (unwrap_or (number_of 19 parts) 0); lon_offset = int64 (unwrap_or (number_of 20 parts) 0) })
+
+-- the entries of a StringTable, or its first fault
+unfoldable pub strings_in : List ℕ → Result (List (List ℕ)) BlockFault
+strings_in table = do
+  parts ← told_as wire (message string_table table)
+  let strings = bytes_of 1 parts
+  _ ← require (nat_le (length strings) strings_limit) too_many_strings
+  _ ← refuse (option_map not_text (position (λ entry. not (is_utf8 entry)) strings))
+  Ok strings
+
+-- The strings of a PrimitiveBlock, or the first fault up to them.
+unfoldable pub block_strings : List ℕ → Result (List (List ℕ)) BlockFault
+block_strings raw = do
+  parts ← told_as wire (message primitive_block raw)
+  table ← ok_or (once_of 1 parts) no_strings
+  strings_in table
+
+-- the groups of a PrimitiveBlock, or the first fault of its message
+unfoldable pub block_groups : List ℕ → Result (List (List ℕ)) BlockFault
+block_groups raw = do
+  parts ← told_as wire (message primitive_block raw)
+  Ok (bytes_of 2 parts)
+
+-- What a PrimitiveBlock has besides its objects.
+pub record Block : Type 0 where
+  pub head : BlockHead
+  pub strings : List (List ℕ)
+  pub groups : List (List ℕ)
+
+-- a PrimitiveBlock, or its first fault before its groups
+unfoldable pub block : List ℕ → Result Block BlockFault
+block raw = do
+  strings ← block_strings raw
+  head ← block_head raw
+  groups ← block_groups raw
+  Ok (record { head = head; strings = strings; groups = groups })

@@ -1,0 +1,189 @@
+-- The blobs of an extract: the OpenStreetMap wiki, "PBF Format", on its file format.
+use Rattle.std.specs.Prelude.{Bool, true, false, filter, Result, ◌≡◌, ◌≢◌, ℕ, zero, suc, ◌+◌, ◌-◌, ◌^◌, ◌≤◌, ◌<◌, ◌&&◌, ◌==◌, nat_lt, nat_le, if◌then◌else◌, List, [], ◌∷◌, ◌++◌, length, get_or, take, drop, map, find, Option, Some, None, option_map, ok_or, Ok, Err, codes, bytes_eq, MatchOption, ⊤}
+use Rattle.byteorder.specs.Endian.{big_number}
+use Rattle.mf_base.specs.Spelling.{be}
+use Rattle.osm_model.specs.Reading.{Reading, all_read, stops_at, then_reads, ◌>>=◌, require, refuse, told_as}
+use Rattle.osm_model.specs.Wire.{Field, IsMessage}
+use Rattle.osm_model.specs.Tables.{MessageFault, FitsTable, message, blob_header, blob, once_of, number_of}
+
+-- What a blob holds: the raw bytes of a HeaderBlock or of a PrimitiveBlock, or what its type says, unread.
+pub data Content : Type 0 where
+  header : List ℕ → Content
+  primitive : List ℕ → Content
+  unread : List ℕ → Content
+
+-- A blob with its offset in the input, which is that of its four length bytes.
+pub record Frame : Type 0 where
+  pub at : ℕ
+  pub content : Content
+
+-- the type of a blob
+abbrev pub type_of : Content → List ℕ
+type_of (header raw) = codes "OSMHeader"
+type_of (primitive raw) = codes "OSMData"
+type_of (unread kind) = kind
+
+-- a BlobHeader has at most this many bytes, a Blob at most this many, and a blob begins before this offset
+abbrev pub header_limit : ℕ
+header_limit = 65535
+
+abbrev pub blob_limit : ℕ
+blob_limit = 33554432
+
+abbrev pub offset_limit : ℕ
+offset_limit = 2 ^ 62
+
+-- the first field of compressed data: zlib, lzma, bzip2, lz4 or zstd
+abbrev pub compressed_of : List Field → Option ℕ
+compressed_of fs = find (λ k. nat_le 3 k && nat_le k 7) (map (λ (f : Field). f.number) fs)
+
+-- The bytes are a BlobHeader with this type and this datasize.
+pub record IsBlobHeader (kind : List ℕ) (size : ℕ) (b : List ℕ) : Type 0 where
+  pub parts : List Field
+  pub spelled : IsMessage b parts
+  pub fits : FitsTable blob_header parts
+  pub named : once_of 1 parts ≡ Some kind
+  pub sized : number_of 3 parts ≡ Some size
+
+-- The bytes are a Blob that holds these raw bytes, and no others.
+pub record IsBlob (raw : List ℕ) (b : List ℕ) : Type 0 where
+  pub parts : List Field
+  pub spelled : IsMessage b parts
+  pub fits : FitsTable blob parts
+  pub plain : compressed_of parts ≡ None
+  pub held : once_of 1 parts ≡ Some raw
+  pub told : MatchOption (number_of 2 parts) ⊤ (λ size. size ≡ length raw)
+
+-- The bytes of a blob of this content: the raw bytes where its type is known, and else any.
+abbrev pub HoldsContent : Content → List ℕ → Type 0
+HoldsContent (header raw) b = IsBlob raw b
+HoldsContent (primitive raw) b = IsBlob raw b
+HoldsContent (unread kind) b = (kind ≢ codes "OSMHeader") × (kind ≢ codes "OSMData")
+
+-- The bytes spell a blob: four bytes of length, the BlobHeader, the Blob.
+pub record SpellsFrame (content : Content) (b : List ℕ) : Type 0 where
+  pub head : List ℕ
+  pub body : List ℕ
+  pub whole : b ≡ be 4 (length head) ++ head ++ body
+  pub head_size : length head ≤ header_limit
+  pub body_size : length body ≤ blob_limit
+  pub head_holds : IsBlobHeader (type_of content) (length body) head
+  pub body_holds : HoldsContent content body
+
+-- The bytes are these blobs, one after another, the first at this offset, and each begins before 2^62.
+abbrev pub AreFrames : ℕ → List ℕ → List Frame → Type 0
+AreFrames at b [] = b ≡ []
+AreFrames at b (f ∷ fs) = (front : List ℕ) × (rest : List ℕ) × (f.at ≡ at) × (at < offset_limit) × SpellsFrame f.content front × AreFrames (at + length front) rest fs × (b ≡ front ++ rest)
+
+-- each number is a byte
+abbrev pub IsBytes : List ℕ → Type 0
+IsBytes bytes = (i : ℕ) → get_or bytes i 0 < 256
+
+-- Why the bytes begin with no blob.
+pub data FrameFault : Type 0 where
+  -- the offset is 2^62 or more
+  too_long : FrameFault
+  -- the input ends after so many bytes of the length, of the BlobHeader or of the Blob
+  truncated : ℕ → FrameFault
+  -- the length is above 65,535
+  header_length : FrameFault
+  header_wire : MessageFault → FrameFault
+  no_type : FrameFault
+  no_size : FrameFault
+  -- datasize is above 33,554,432
+  blob_size : FrameFault
+  blob_wire : MessageFault → FrameFault
+  -- the first field of compressed data
+  compressed : ℕ → FrameFault
+  no_data : FrameFault
+  -- raw_size told a number that is not that of the bytes found
+  raw_size : ℕ → ℕ → FrameFault
+
+-- so many bytes, where they are there
+abbrev pub whole_part : ℕ → List ℕ → Result (List ℕ) FrameFault
+whole_part count bytes = do
+  _ ← require (nat_le count (length bytes)) (truncated (length bytes))
+  Ok (take count bytes)
+
+abbrev pub raw_size_fault : Option ℕ → ℕ → Option FrameFault
+raw_size_fault None found = None
+raw_size_fault (Some told) found = if told == found then None else Some (raw_size told found)
+
+-- the raw bytes of a Blob, or its first fault
+unfoldable pub raw_bytes : List ℕ → Result (List ℕ) FrameFault
+raw_bytes bytes = do
+  parts ← told_as blob_wire (message blob bytes)
+  _ ← refuse (option_map compressed (compressed_of parts))
+  raw ← ok_or (once_of 1 parts) no_data
+  _ ← refuse (raw_size_fault (number_of 2 parts) (length raw))
+  Ok raw
+
+-- what a blob of this type holds in these bytes
+abbrev pub content_in : List ℕ → List ℕ → Result Content FrameFault
+content_in kind bytes =
+    if bytes_eq kind (codes "OSMHeader") then (raw_bytes bytes >>= λ raw. Ok (header raw))
+    else (if bytes_eq kind (codes "OSMData") then (raw_bytes bytes >>= λ raw. Ok (primitive raw))
+    else Ok (unread kind))
+
+-- The blob that the bytes at this offset begin with, and how many bytes it takes, or its first fault.
+unfoldable pub frame_front : ℕ → List ℕ → Result (Content × ℕ) FrameFault
+frame_front at bytes = do
+  _ ← require (nat_lt at offset_limit) too_long
+  size ← whole_part 4 bytes
+  let head_size = big_number 4 size
+  _ ← require (nat_le head_size header_limit) header_length
+  head ← whole_part head_size (drop 4 bytes)
+  parts ← told_as header_wire (message blob_header head)
+  kind ← ok_or (once_of 1 parts) no_type
+  body_size ← ok_or (number_of 3 parts) no_size
+  _ ← require (nat_le body_size blob_limit) blob_size
+  body ← whole_part body_size (drop (4 + head_size) bytes)
+  content ← content_in kind body
+  Ok (content, 4 + head_size + body_size)
+
+-- A fault of a blob, with the blob's offset.
+pub record FrameFaultAt : Type 0 where
+  pub at : ℕ
+  pub fault : FrameFault
+
+-- the blobs behind so many bytes, the first byte being at this offset, up to the first fault
+unfoldable pub frames_behind : ℕ → ℕ → List ℕ → Reading Frame FrameFaultAt
+frames_behind at skip [] = all_read
+frames_behind at (suc skip) (b ∷ rest) = frames_behind (suc at) skip rest
+frames_behind at zero (b ∷ rest) =
+    elim (frame_front at (b ∷ rest)) [
+      | Ok found ↦ then_reads (record { at = at; content = found.0 }) (frames_behind (suc at) (found.1 - 1) rest)
+      | Err fault ↦ stops_at (record { at = at; fault = fault })
+    ]
+
+-- the blobs of an input, up to the first fault in one
+abbrev pub frames : List ℕ → Reading Frame FrameFaultAt
+frames bytes = frames_behind 0 0 bytes
+
+-- a blob whose type is known
+abbrev pub is_known : Frame → Bool
+is_known f = elim f.content [ header raw ↦ true | primitive raw ↦ true | unread kind ↦ false ]
+
+-- the blobs of known types; those of other types are passed over
+abbrev pub known_frames : List Frame → List Frame
+known_frames fs = filter is_known fs
+
+-- the first blob of a known type, or the fault before it, or None at the end of the input
+abbrev pub next_known : Reading Frame FrameFaultAt → Result (Option Frame) FrameFaultAt
+next_known read = elim (find is_known read.items) [
+  | Some f ↦ Ok (Some f)
+  | None ↦ elim read.fault [ Some told ↦ Err told | None ↦ Ok None ]
+]
+
+-- Nothing is left, or bytes at this offset that begin with no blob.
+abbrev pub EndsAt : ℕ → List ℕ → Option FrameFaultAt → Type 0
+EndsAt at rest None = rest ≡ []
+EndsAt at rest (Some told) = (rest ≢ []) × (told.at ≡ at) × (frame_front at rest ≡ Err told.fault)
+
+-- What is read of the bytes at this offset is blobs in front, and the fault of what is left.
+pub record ReadsFrames (at : ℕ) (bytes : List ℕ) (read : Reading Frame FrameFaultAt) : Type 0 where
+  pub front : List ℕ
+  pub rest : List ℕ
+  pub whole : bytes ≡ front ++ rest
+  pub spelled : AreFrames at front read.items
+  pub ended : EndsAt (at + length front) rest read.fault

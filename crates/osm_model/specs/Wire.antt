@@ -1,0 +1,167 @@
+-- Varints, fields and messages: Protocol Buffers, "Encoding", on base 128 varints, message structure and packed fields.
+use Rattle.std.specs.Prelude.{◌≡◌, ℕ, zero, suc, ◌+◌, ◌-◌, ◌*◌, ◌/◌, ◌%◌, ◌^◌, ◌<◌, ◌≤◌, Bool, true, false, ◌&&◌, ◌==◌, nat_lt, nat_le, if◌then◌else◌, List, [], ◌∷◌, ◌++◌, length, take, drop, map, Option, Some, None, ◌≢◌, Result, Ok, Err, ℤ, pos, negsuc}
+use Rattle.std.specs.List.{list_all}
+use Rattle.std.specs.Int.{w64, cast_signed}
+use Rattle.mf_base.specs.Spelling.{Varint, high_run, sevens, first_run}
+use Rattle.osm_model.specs.Reading.{Reading, all_read, stops_at, then_reads, ◌>>=◌, require, told_as}
+
+-- The value of a field, under the name of its wire type: VARINT 0, I64 1, LEN 2, I32 5.
+pub data Value : Type 0 where
+  varint : ℕ → Value
+  i64 : List ℕ → Value
+  len : List ℕ → Value
+  i32 : List ℕ → Value
+
+pub record Field : Type 0 where
+  pub number : ℕ
+  pub value : Value
+
+-- the code of a wire type
+abbrev pub wire_type : Value → ℕ
+wire_type (varint n) = 0
+wire_type (i64 bytes) = 1
+wire_type (len bytes) = 2
+wire_type (i32 bytes) = 5
+
+-- the number before a field's value
+abbrev pub key_of : Field → ℕ
+key_of f = 8 * f.number + wire_type f.value
+
+-- The bytes spell the value: a varint, so many bytes, or the varint of a length and so many bytes.
+abbrev pub SpellsValue : Value → List ℕ → Type 0
+SpellsValue (varint n) b = Varint n b
+SpellsValue (i64 bytes) b = (length bytes ≡ 8) × (b ≡ bytes)
+SpellsValue (len bytes) b = (size : List ℕ) × Varint (length bytes) size × (b ≡ size ++ bytes)
+SpellsValue (i32 bytes) b = (length bytes ≡ 4) × (b ≡ bytes)
+
+-- The bytes spell the field: its key, then its value. A field's number is in 1 to 2^29 - 1.
+pub record SpellsField (f : Field) (b : List ℕ) : Type 0 where
+  pub least : 1 ≤ f.number
+  pub most : f.number < 2 ^ 29
+  pub spelled : (key : List ℕ) × (rest : List ℕ) × Varint (key_of f) key × SpellsValue f.value rest × (b ≡ key ++ rest)
+
+-- A message is the spellings of its fields, one after another.
+abbrev pub IsMessage : List ℕ → List Field → Type 0
+IsMessage b [] = b ≡ []
+IsMessage b (f ∷ fs) = (front : List ℕ) × (rest : List ℕ) × SpellsField f front × IsMessage rest fs × (b ≡ front ++ rest)
+
+-- A packed list is the spellings of its numbers, one after another.
+abbrev pub IsPacked : List ℕ → List ℕ → Type 0
+IsPacked b [] = b ≡ []
+IsPacked b (n ∷ ns) = (front : List ℕ) × (rest : List ℕ) × Varint n front × IsPacked rest ns × (b ≡ front ++ rest)
+
+-- Why the bytes begin with no varint: they end within fewer than ten, or the tenth is neither 0 nor 1.
+pub data VarintFault : Type 0 where
+  short : VarintFault
+  long : VarintFault
+
+-- the number of the varint that the bytes begin with, and how many bytes it takes
+unfoldable pub varint_front : List ℕ → Result (ℕ × ℕ) VarintFault
+varint_front bytes =
+    let ten = take 10 bytes in
+    let number = sevens (first_run ten) in
+    if high_run ten == length ten then Err (if length ten == 10 then long else short)
+    else (if nat_lt number (2 ^ 64) then Ok (number, suc (high_run ten)) else Err long)
+
+-- Why the bytes begin with no field.
+pub data WireFault : Type 0 where
+  -- a varint is misspelt
+  varint_fault : WireFault
+  -- a field number or a wire type that there is not
+  kind_fault : WireFault
+  -- the bytes end within a value
+  length_fault : WireFault
+
+-- the first varint, for a field
+abbrev pub number_front : List ℕ → Result (ℕ × ℕ) WireFault
+number_front bytes = told_as (λ fault. varint_fault) (varint_front bytes)
+
+-- so many bytes from a place on, and where they end
+abbrev pub bytes_front : (List ℕ → Value) → ℕ → ℕ → List ℕ → Result (Value × ℕ) WireFault
+bytes_front kind count at bytes = do
+  _ ← require (nat_le (at + count) (length bytes)) length_fault
+  Ok (kind (take count (drop at bytes)), at + count)
+
+abbrev pub varint_value : List ℕ → Result (Value × ℕ) WireFault
+varint_value bytes = do
+  n ← number_front bytes
+  Ok (varint n.0, n.1)
+
+abbrev pub len_value : List ℕ → Result (Value × ℕ) WireFault
+len_value bytes = do
+  size ← number_front bytes
+  bytes_front len size.0 size.1 bytes
+
+-- the value of this wire type that the bytes begin with, and how many bytes it takes
+abbrev pub value_front : ℕ → List ℕ → Result (Value × ℕ) WireFault
+value_front type bytes =
+    if type == 0 then varint_value bytes
+    else (if type == 1 then bytes_front i64 8 0 bytes
+    else (if type == 2 then len_value bytes
+    else (if type == 5 then bytes_front i32 4 0 bytes
+    else Err kind_fault)))
+
+-- the field that the bytes begin with, and how many bytes it takes, or the first fault in it
+unfoldable pub field_front : List ℕ → Result (Field × ℕ) WireFault
+field_front bytes = do
+  key ← number_front bytes
+  _ ← require (nat_le 1 (key.0 / 8) && nat_lt (key.0 / 8) (2 ^ 29)) kind_fault
+  value ← value_front (key.0 % 8) (drop key.1 bytes)
+  Ok (record { number = key.0 / 8; value = value.0 }, key.1 + value.1)
+
+-- the fields behind so many bytes, up to the first fault in one
+unfoldable pub fields_behind : ℕ → List ℕ → Reading Field WireFault
+fields_behind skip [] = all_read
+fields_behind (suc skip) (b ∷ rest) = fields_behind skip rest
+fields_behind zero (b ∷ rest) =
+    elim (field_front (b ∷ rest)) [
+      | Ok found ↦ then_reads found.0 (fields_behind (found.1 - 1) rest)
+      | Err fault ↦ stops_at fault
+    ]
+
+-- the fields that the bytes begin with, up to the first fault in one
+abbrev pub fields : List ℕ → Reading Field WireFault
+fields bytes = fields_behind 0 bytes
+
+-- Nothing is left, or bytes that begin with no field.
+abbrev pub EndsAt : List ℕ → Option WireFault → Type 0
+EndsAt rest None = rest ≡ []
+EndsAt rest (Some fault) = (rest ≢ []) × (field_front rest ≡ Err fault)
+
+-- What is read of the bytes is a message in front, and the fault of what is left.
+pub record ReadsFields (bytes : List ℕ) (read : Reading Field WireFault) : Type 0 where
+  pub front : List ℕ
+  pub rest : List ℕ
+  pub whole : bytes ≡ front ++ rest
+  pub spelled : IsMessage front read.items
+  pub ended : EndsAt rest read.fault
+
+-- a byte before the first of the runs
+abbrev pub before_first : ℕ → List (List ℕ) → List (List ℕ)
+before_first b [] = (b ∷ []) ∷ []
+before_first b (run ∷ runs) = (b ∷ run) ∷ runs
+
+-- the bytes, cut after each that has no top bit
+unfoldable pub runs : List ℕ → List (List ℕ)
+runs [] = []
+runs (b ∷ rest) = elim (nat_lt b 128) [ true ↦ (b ∷ []) ∷ runs rest | false ↦ before_first b (runs rest) ]
+
+-- the run is a varint
+abbrev pub is_varint : List ℕ → Bool
+is_varint run = (length run == suc (high_run run)) && nat_le (length run) 10 && nat_lt (sevens run) (2 ^ 64)
+
+-- the bytes are whole varints
+abbrev pub are_varints : List ℕ → Bool
+are_varints bytes = list_all is_varint (runs bytes)
+
+-- the numbers of whole varints
+abbrev pub packed_numbers : List ℕ → List ℕ
+packed_numbers bytes = map sevens (runs bytes)
+
+-- the number that a sint64 spells: 0, -1, 1, -2 and so on
+abbrev pub sint64 : ℕ → ℤ
+sint64 n = if n % 2 == 0 then pos (n / 2) else negsuc (n / 2)
+
+-- the number that an int64 spells: two's complement of 64 bits
+abbrev pub int64 : ℕ → ℤ
+int64 n = cast_signed w64 n
