@@ -8,7 +8,7 @@ use Rattle.std.proofs.lemmas.List.Sums.{length-filter}
 use Rattle.std.proofs.lemmas.List.Elements.{filter-append}
 use Rattle.std.proofs.lemmas.List.Folds.{flat_map-map}
 use Rattle.std.proofs.lemmas.Grind.{flat_map-append}
-use Rattle.mf_base.specs.Spelling.{vbe_u}
+use Rattle.mf_base.specs.Spelling.{vbe_unsigned}
 use Rattle.mf_base.specs.declared.place.Place.{Place}
 use Rattle.mf_base.specs.declared.tile.Interval.{Interval}
 use Rattle.mf_base.specs.declared.tile.TilePlace.{TilePlace}
@@ -126,13 +126,13 @@ in_order-parts interval fs e = record {
 }
 
 counts-level : (corner : Place) (tile : TilePlace) (fs : List Feature) (z : ℕ)
-    → level_count_bytes (written_level corner tile fs z) ≡ vbe_u (zoom_count tile.interval z (filter is_poi fs)) ++ vbe_u (zoom_count tile.interval z (filter is_way fs))
+    → level_count_bytes (written_level corner tile fs z) ≡ vbe_unsigned (zoom_count tile.interval z (filter is_poi fs)) ++ vbe_unsigned (zoom_count tile.interval z (filter is_way fs))
 unfolding written_level
 counts-level corner tile fs z =
     let same : Feature → Bool = λ f. effective_zoom tile.interval f == z in
     let p = length-map (filter same (filter is_poi fs)) poi_fields ∙ length-filter same (filter is_poi fs) in
     let w = length-map (filter same (filter is_way fs)) (λ f. way_fields corner (sub_tile_bits f tile) f) ∙ length-filter same (filter is_way fs) in
-    λ i. vbe_u (p i) ++ vbe_u (w i)
+    λ i. vbe_unsigned (p i) ++ vbe_unsigned (w i)
 
 pois-level : (corner : Place) (tile : TilePlace) (fs : List Feature) (z : ℕ)
     → flat_map (poi_fields_bytes corner) (written_level corner tile fs z).pois ≡ flat_map (poi_bytes corner) (of_zoom tile.interval z (filter is_poi fs))
@@ -152,7 +152,7 @@ module _ (corner : Place) (tile : TilePlace) (fs : List Feature) (h : InOrder ti
   unfolding zoom_table level
   table-levels =
       flat_map-map level_count_bytes (written_level corner tile fs) (zooms tile.interval)
-      ∙ flat_map_ext (λ z. level_count_bytes (written_level corner tile fs z)) (λ z. vbe_u (zoom_count tile.interval z (filter is_poi fs)) ++ vbe_u (zoom_count tile.interval z (filter is_way fs))) (counts-level corner tile fs) (zooms tile.interval)
+      ∙ flat_map_ext (λ z. level_count_bytes (written_level corner tile fs z)) (λ z. vbe_unsigned (zoom_count tile.interval z (filter is_poi fs)) ++ vbe_unsigned (zoom_count tile.interval z (filter is_way fs))) (counts-level corner tile fs) (zooms tile.interval)
 
   pois-levels : flat_map (λ l. flat_map (poi_fields_bytes corner) l.pois) (map level (zooms tile.interval)) ≡ flat_map (poi_bytes corner) (filter is_poi fs)
   unfolding level

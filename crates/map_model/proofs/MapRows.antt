@@ -1,7 +1,7 @@
 -- The whole maps of the worked rows.
 use Rattle.std.proofs.Common.{◌≡◌, ℕ, List, [], ◌∷◌, ◌++◌, refl, ap, ◌∙◌, false}
 use Rattle.std.specs.Prelude.{codes}
-use Rattle.mf_base.specs.Spelling.{vbe_u, vbe_u_within, vbe_m, vbe_m_within, string, be}
+use Rattle.mf_base.specs.Spelling.{vbe_unsigned, vbe_unsigned_within, vbe_magnitude, vbe_magnitude_within, string, big_endian}
 use Rattle.mf_base.specs.declared.place.Rect.{Rect}
 use Rattle.map_model.specs.Mercator.{column}
 use Rattle.map_model.specs.Layout.{sized, tag_bytes, poi_fields_bytes}
@@ -36,7 +36,7 @@ bench_tile =
     ∷ 0xF8 ∷ 0x8D ∷ 0xC7 ∷ 0x68 ∷ 0x80 ∷ 0xAA ∷ 0xEA ∷ 0xD5 ∷ 0x00 ∷ 0x51 ∷ 0x00 ∷ 0x00 ∷ []
 
 bench_tile-is : some_tile_bytes world_corner (world_tile 7) (bench ∷ []) ≡ bench_tile
-unfolding some_tile_bytes zoom_table sized poi_bytes poi_fields poi_fields_bytes tag_bytes vbe_m vbe_m_within vbe_u vbe_u_within string be bench_tile
+unfolding some_tile_bytes zoom_table sized poi_bytes poi_fields poi_fields_bytes tag_bytes vbe_magnitude vbe_magnitude_within vbe_unsigned vbe_unsigned_within string big_endian bench_tile
 bench_tile-is = refl
 
 bench_tile_bytes : tile_bytes (world_tile 7) (bench ∷ []) ≡ bench_tile
@@ -52,7 +52,7 @@ unfolding all_pieces pieces
 world_pieces = rw (world_tiles, world_piece) refl
 
 pub one_bench : map_file (settings_to 7) bench_tags degree_box (bench ∷ []) ≡ bench_map
-unfolding map_file map_of_pieces header_bytes header_size header_fields_bytes written_header fields_bytes middle_bytes sub_file_of index_bytes vbe_u vbe_u_within string be bench_tile
+unfolding map_file map_of_pieces header_bytes header_size header_fields_bytes written_header fields_bytes middle_bytes sub_file_of index_bytes vbe_unsigned vbe_unsigned_within string big_endian bench_tile
 one_bench = rw world_pieces refl
 
 empty_members : members [] (world_tile 7) ≡ []
@@ -68,7 +68,7 @@ unfolding all_pieces pieces
 empty_pieces = rw (world_tiles, empty_piece) refl
 
 pub header_alone : map_file (settings_to 7) bench_tags degree_box [] ≡ empty_map
-unfolding map_file map_of_pieces header_bytes header_size header_fields_bytes written_header fields_bytes middle_bytes sub_file_of index_bytes vbe_u vbe_u_within string be
+unfolding map_file map_of_pieces header_bytes header_size header_fields_bytes written_header fields_bytes middle_bytes sub_file_of index_bytes vbe_unsigned vbe_unsigned_within string big_endian
 header_alone = rw empty_pieces refl
 
 pub map_lengths : (length bench_map ≡ 144) × (length empty_map ≡ 115)
@@ -78,7 +78,7 @@ map_lengths = (refl, refl)
 
 pub bench_report : report (settings_to 7) bench_tags degree_box (record { nodes = 1; ways = 0; relations = 0; refs = 0; members = 0 }) (11 ∷ []) (bench ∷ [])
     ≡ record { nodes = 1; ways = 0; relations = 0; features = 1; skipped = 0; tiles = 1; water = 0; bytes = 144; largest = 11 }
-unfolding report map_of_pieces header_bytes header_size header_fields_bytes written_header fields_bytes middle_bytes sub_file_of index_bytes vbe_u vbe_u_within string be bench_tile largest all_tiles
+unfolding report map_of_pieces header_bytes header_size header_fields_bytes written_header fields_bytes middle_bytes sub_file_of index_bytes vbe_unsigned vbe_unsigned_within string big_endian bench_tile largest all_tiles
 bench_report = rw (world_pieces, world_tiles, world_members) refl
 
 pub report_text : report_line (record { nodes = 1; ways = 0; relations = 0; features = 1; skipped = 0; tiles = 1; water = 0; bytes = 144; largest = 11 })

@@ -6,35 +6,35 @@ use Rattle.std.proofs.lemmas.List.{drop_at, take_at}
 use Rattle.std.proofs.Math.IntN.{+ℤ_comm, +ℤ_assoc, -ℤ-+ℤ_cancel}
 use Rattle.std.specs.List.{AllByRecursion}
 use Rattle.std.proofs.Math.Numerals.{sub-one}
-use Rattle.mf_base.specs.Spelling.{vbe_u, vbe_s, string}
-use Rattle.mf_base.proofs.NumberLemmas.{unsigned_at-again, signed_at-again}
+use Rattle.mf_base.specs.Spelling.{vbe_unsigned, vbe_signed, string}
+use Rattle.mf_base.proofs.NumberLemmas.{unsigned_front-again, signed_front-again}
 use Rattle.mf_base.specs.declared.place.Place.{Place}
-use Rattle.map_model.specs.Numbers.{is_in_32}
+use Rattle.mf_base.specs.Ranges.{is_signed_32}
 use Rattle.map_model.specs.Tiles.{origin}
 use Rattle.map_model.specs.Layout.{step, step_bytes, steps_from, ring_steps, coordinate_bytes, ring_bytes, block_bytes}
-use Rattle.map_model.specs.Reading.{Read, times}
+use Rattle.map_model.specs.Reader.{Read, times}
 use Rattle.map_model.specs.TileReading.{TileKind, number, signed, count_from, text_at, ranged, place_from, moved, places_after, ring_at, block_at, IsText, IsInRange, IsRing, IsBlock}
 
 -- a reader reads x from these bytes, whatever follows them
 unfoldable pub Again : {X : Type 0} → (List ℕ → Read TileKind X) → List ℕ → X → Type 0
 Again read bytes x = (rest : List ℕ) → read (bytes ++ rest) ≡ Ok (x, rest)
 
-pub number-again : (n : ℕ) → n < 2 ^ 63 → Again number (vbe_u n) n
+pub number-again : (n : ℕ) → n < 2 ^ 63 → Again number (vbe_unsigned n) n
 unfolding Again number
-number-again n fits rest = rw (unsigned_at-again n rest fits) refl
+number-again n fits rest = rw (unsigned_front-again n rest fits, drop_at (vbe_unsigned n) rest (length (vbe_unsigned n)) refl) refl
 
-pub signed-again : (z : ℤ) → nat_abs z < 2 ^ 63 → Again signed (vbe_s z) z
+pub signed-again : (z : ℤ) → nat_abs z < 2 ^ 63 → Again signed (vbe_signed z) z
 unfolding Again signed
-signed-again z fits rest = rw (signed_at-again z rest fits) refl
+signed-again z fits rest = rw (signed_front-again z rest fits, drop_at (vbe_signed z) rest (length (vbe_signed z)) refl) refl
 
-pub count_from-again : (few n : ℕ) → few ≤ n → n < 2 ^ 63 → Again (count_from few) (vbe_u n) n
+pub count_from-again : (few n : ℕ) → few ≤ n → n < 2 ^ 63 → Again (count_from few) (vbe_unsigned n) n
 unfolding Again count_from
 count_from-again few n enough fits rest = rw (number-again n fits rest, le-leb few n enough) refl
 
 pub text_at-again : (text : List ℕ) → IsText text → Again text_at (string text) text
 unfolding Again text_at string
 text_at-again text h rest =
-    ap text_at (append_assoc (vbe_u (length text)) text rest)
+    ap text_at (append_assoc (vbe_unsigned (length text)) text rest)
     ∙ rw (
       number-again (length text) h.0 (text ++ rest),
       take_at text rest (length text) refl,
@@ -49,7 +49,7 @@ pub and-true : (b : Bool) → b && true ≡ true → b ≡ true
 and-true true e = refl
 and-true false e = e
 
-pub nat_abs-in_32 : (z : ℤ) → is_in_32 z ≡ true → nat_abs z ≤ 2 ^ 31
+pub nat_abs-in_32 : (z : ℤ) → is_signed_32 z ≡ true → nat_abs z ≤ 2 ^ 31
 nat_abs-in_32 (pos n) e = let le = leb-true n 2147483647 e in omega (arith, le)
 nat_abs-in_32 (negsuc n) e = let le = leb-true n 2147483647 (and-true (leb n 2147483647) e) in omega (arith, le)
 
@@ -70,7 +70,7 @@ nat_abs-sum (pos a) (negsuc b) = nat_abs-sub a b
 nat_abs-sum (negsuc a) (pos b) = let le = nat_abs-sub b a in omega (arith, le)
 nat_abs-sum (negsuc a) (negsuc b) = omega arith
 
-pub nat_abs-step : (a b : ℤ) → is_in_32 a ≡ true → is_in_32 b ≡ true → nat_abs (b -ℤ a) < 2 ^ 63
+pub nat_abs-step : (a b : ℤ) → is_signed_32 a ≡ true → is_signed_32 b ≡ true → nat_abs (b -ℤ a) < 2 ^ 63
 nat_abs-step a b ha hb =
     let le = nat_abs-sum b (neg_ℤ a) in
     let neg = nat_abs-neg a in
@@ -81,19 +81,19 @@ nat_abs-step a b ha hb =
 pub back : (base z : ℤ) → base +ℤ (z -ℤ base) ≡ z
 back base z = +ℤ_comm base (z -ℤ base) ∙ -ℤ-+ℤ_cancel z base
 
-pub ranged-again : (base z : ℤ) → is_in_32 base ≡ true → is_in_32 z ≡ true → Again (ranged base) (vbe_s (z -ℤ base)) z
+pub ranged-again : (base z : ℤ) → is_signed_32 base ≡ true → is_signed_32 z ≡ true → Again (ranged base) (vbe_signed (z -ℤ base)) z
 unfolding Again ranged
 ranged-again base z hb hz rest = rw (signed-again (z -ℤ base) (nat_abs-step base z hb hz) rest, back base z, hz) refl
 
 pub place_from-again : (base p : Place) → IsInRange base → IsInRange p → Again (place_from base) (step_bytes (step base p)) p
 unfolding Again place_from
 place_from-again base p hb hp rest =
-    ap (place_from base) (append_assoc (vbe_s (p.lat -ℤ base.lat)) (vbe_s (p.lon -ℤ base.lon)) rest)
-    ∙ rw (ranged-again base.lat p.lat hb.0 hp.0 (vbe_s (p.lon -ℤ base.lon) ++ rest), ranged-again base.lon p.lon hb.1 hp.1 rest) refl
+    ap (place_from base) (append_assoc (vbe_signed (p.lat -ℤ base.lat)) (vbe_signed (p.lon -ℤ base.lon)) rest)
+    ∙ rw (ranged-again base.lat p.lat hb.0 hp.0 (vbe_signed (p.lon -ℤ base.lon) ++ rest), ranged-again base.lon p.lon hb.1 hp.1 rest) refl
 
 -- ---- rings
 
-ranged-by : (base d z : ℤ) → base +ℤ d ≡ z → nat_abs d < 2 ^ 63 → is_in_32 z ≡ true → Again (ranged base) (vbe_s d) z
+ranged-by : (base d z : ℤ) → base +ℤ d ≡ z → nat_abs d < 2 ^ 63 → is_signed_32 z ≡ true → Again (ranged base) (vbe_signed d) z
 unfolding Again ranged
 ranged-by base d z e fits hz rest = rw (signed-again d fits rest, e, hz) refl
 
@@ -105,7 +105,7 @@ record IsStep (s : Place) : Type 0 where
 origin-step : IsStep origin
 origin-step = record { lat = omega arith; lon = omega arith }
 
-near : (a b : ℤ) → is_in_32 a ≡ true → is_in_32 b ≡ true → nat_abs (b -ℤ a) ≤ 2 ^ 32
+near : (a b : ℤ) → is_signed_32 a ≡ true → is_signed_32 b ≡ true → nat_abs (b -ℤ a) ≤ 2 ^ 32
 near a b ha hb =
     let le = nat_abs-sum b (neg_ℤ a) in
     let neg = nat_abs-neg a in
@@ -128,9 +128,9 @@ forth b l z = +ℤ_assoc b l (z -ℤ b -ℤ l) ∙ ap (λ k. b +ℤ k) (back l (
 place_from-twice : (before last p : Place) → IsInRange before → IsStep last → IsInRange p → Again (place_from (moved before last)) (step_bytes (step last (step before p))) p
 unfolding Again place_from
 place_from-twice before last p hb hl hp rest =
-    ap (place_from (moved before last)) (append_assoc (vbe_s (p.lat -ℤ before.lat -ℤ last.lat)) (vbe_s (p.lon -ℤ before.lon -ℤ last.lon)) rest)
+    ap (place_from (moved before last)) (append_assoc (vbe_signed (p.lat -ℤ before.lat -ℤ last.lat)) (vbe_signed (p.lon -ℤ before.lon -ℤ last.lon)) rest)
     ∙ rw (
-      ranged-by (before.lat +ℤ last.lat) (p.lat -ℤ before.lat -ℤ last.lat) p.lat (forth before.lat last.lat p.lat) (second_step last.lat (p.lat -ℤ before.lat) hl.lat (near before.lat p.lat hb.0 hp.0)) hp.0 (vbe_s (p.lon -ℤ before.lon -ℤ last.lon) ++ rest),
+      ranged-by (before.lat +ℤ last.lat) (p.lat -ℤ before.lat -ℤ last.lat) p.lat (forth before.lat last.lat p.lat) (second_step last.lat (p.lat -ℤ before.lat) hl.lat (near before.lat p.lat hb.0 hp.0)) hp.0 (vbe_signed (p.lon -ℤ before.lon -ℤ last.lon) ++ rest),
       ranged-by (before.lon +ℤ last.lon) (p.lon -ℤ before.lon -ℤ last.lon) p.lon (forth before.lon last.lon p.lon) (second_step last.lon (p.lon -ℤ before.lon) hl.lon (near before.lon p.lon hb.1 hp.1)) hp.1 rest,
     ) refl
 
@@ -167,7 +167,7 @@ pub ring_at-again : (corner : Place) (double : Bool) (ring : List Place) → IsI
 unfolding Again ring_at ring_bytes
 ring_at-again corner double [] hc h rest = absurd (let two = h.0 in omega (arith, two))
 ring_at-again corner double (first ∷ ps) hc h rest =
-    ap (ring_at corner double) (ap (λ c. vbe_u (suc (length ps)) ++ c ++ rest) (coordinates-split corner double first ps) ∙ append_assoc (vbe_u (suc (length ps))) (step_bytes (step corner first) ++ after_first double first ps) rest ∙ ap (λ c. vbe_u (suc (length ps)) ++ c) (append_assoc (step_bytes (step corner first)) (after_first double first ps) rest))
+    ap (ring_at corner double) (ap (λ c. vbe_unsigned (suc (length ps)) ++ c ++ rest) (coordinates-split corner double first ps) ∙ append_assoc (vbe_unsigned (suc (length ps))) (step_bytes (step corner first) ++ after_first double first ps) rest ∙ ap (λ c. vbe_unsigned (suc (length ps)) ++ c) (append_assoc (step_bytes (step corner first)) (after_first double first ps) rest))
     ∙ rw (
       count_from-again 2 (suc (length ps)) h.0 h.1 (step_bytes (step corner first) ++ (after_first double first ps ++ rest)),
       place_from-again corner first hc h.2.0 (after_first double first ps ++ rest),
@@ -186,7 +186,7 @@ times-again read bytes Fits again (x ∷ xs) h rest =
 pub block_at-again : (corner : Place) (double : Bool) (rings : List (List Place)) → IsInRange corner → IsBlock rings → Again (block_at corner double) (block_bytes corner double rings) rings
 unfolding Again block_at block_bytes
 block_at-again corner double rings hc h rest =
-    ap (block_at corner double) (append_assoc (vbe_u (length rings)) (flat_map (ring_bytes corner double) rings) rest)
+    ap (block_at corner double) (append_assoc (vbe_unsigned (length rings)) (flat_map (ring_bytes corner double) rings) rest)
     ∙ rw (
       count_from-again 1 (length rings) h.0 h.1 (flat_map (ring_bytes corner double) rings ++ rest),
       times-again (ring_at corner double) (ring_bytes corner double) IsRing (λ ring hr. ring_at-again corner double ring hc hr) rings h.2 rest,

@@ -9,40 +9,41 @@ use Rattle.std.proofs.lemmas.Int.{to_z-of_z}
 use Rattle.std.proofs.Math.IntN.{+ℤ_comm, +ℤ-neg_ℤ_cancel}
 use Rattle.byteorder.specs.Endian.{big_number}
 use Rattle.byteorder.specs.Numbers.{big_number-reads_back}
-use Rattle.mf_base.specs.Spelling.{vbe_u, vbe_s, string, be}
+use Rattle.mf_base.specs.Spelling.{vbe_unsigned, vbe_signed, string, big_endian}
 use Rattle.mf_base.specs.declared.place.Place.{Place}
 use Rattle.feature_model.specs.Mapping.{KeptValue}
 use Rattle.feature_model.specs.Choice.{Kept}
-use Rattle.map_model.specs.Numbers.{is_in_32, lies_within, above_zero}
+use Rattle.map_model.specs.Numbers.{above_zero}
+use Rattle.mf_base.specs.Ranges.{is_signed_32, lies_within}
 use Rattle.map_model.specs.Layout.{PoiFields, WayFields, Level, optional, flag, layer_byte, value_bytes, tag_bytes, step, step_bytes, poi_flags, poi_fields_bytes, way_flags, first_of_blocks, way_body_bytes, way_fields_bytes, sized, ring_bytes, block_bytes, level_count_bytes, levels_bytes}
 use Rattle.mf_base.specs.declared.tile.Interval.{Interval}
 use Rattle.mf_base.specs.declared.tile.TilePlace.{TilePlace}
-use Rattle.mf_base.proofs.Vbe.{length-vbe_u-positive}
+use Rattle.mf_base.proofs.Vbe.{length-vbe_unsigned-positive}
 use Rattle.feature_model.specs.Features.{Feature}
 use Rattle.map_model.specs.Tiles.{zooms, in_order}
 use Rattle.map_model.specs.TileBytes.{tile_corner, tile_bytes, written_level, written_levels}
 use Rattle.map_model.proofs.CornerLemmas.{tile_corner-in_range}
 use Rattle.map_model.proofs.LevelLemmas.{levels-spelt, levels-shown}
 use Rattle.map_model.specs.Listed.{TagLists, Listed, listed, shown_levels, ValueKind, value_kind, tag_at}
-use Rattle.map_model.specs.Reading.{Read, fixed_number, times, each, where_set}
+use Rattle.map_model.specs.Reader.{Read, fixed_number, times, each, where_set}
 use Rattle.map_model.specs.TileReading.{TileKind, number, text_at, ranged, layer_at, id_at, value_at, kept_at, tags_at, has_flag, poi_at, block_at, block_count_at, blocks_at, first_place_at, two_signed, label_and_blocks_at, way_body_at, way_at, counts_at, level_of, levels_at, read_tile_from, read_tile, ReadsTile, IsLevel, SpellsLevels, IsText, IsInRange, IsOfKind, IsKeptOf, IsPoi, IsBlock, IsWay}
-use Rattle.map_model.proofs.SizeLemmas.{length-be}
+use Rattle.map_model.proofs.SizeLemmas.{length-big_endian}
 use Rattle.map_model.proofs.PlacesAgain.{Again, number-again, signed-again, count_from-again, text_at-again, ranged-again, place_from-again, block_at-again, times-again, and-true, after_first, coordinates-split, nat_abs-step}
 
 -- ---- fixed widths
 
-pub fixed_number-again : (width n : ℕ) → n < 256 ^ width → Again (fixed_number TileKind.short width) (be width n) n
-unfolding Again be
+pub fixed_number-again : (width n : ℕ) → n < 256 ^ width → Again (fixed_number TileKind.short width) (big_endian width n) n
+unfolding Again big_endian
 fixed_number-again width n fits rest =
-    let len = length-be width n in
+    let len = length-big_endian width n in
     rw (
-      le-ltb (length (be width n ++ rest)) width (rw (length-append (be width n) rest) (omega (arith, len))),
-      take_at (be width n) rest width len,
-      drop_at (be width n) rest width len,
+      le-ltb (length (big_endian width n ++ rest)) width (rw (length-append (big_endian width n) rest) (omega (arith, len))),
+      take_at (big_endian width n) rest width len,
+      drop_at (big_endian width n) rest width len,
     ) (ap (λ m. Ok (m, rest)) here)
   where
-    here : big_number width (be width n) ≡ n
-    here = ap (big_number width) (sym (append-nil (be width n))) ∙ big_number-reads_back width n [] fits
+    here : big_number width (big_endian width n) ≡ n
+    here = ap (big_number width) (sym (append-nil (big_endian width n))) ∙ big_number-reads_back width n [] fits
 
 pub one_byte-again : (b : ℕ) (rest : List ℕ) → fixed_number TileKind.short 1 (b ∷ rest) ≡ Ok (b, rest)
 one_byte-again b rest = rw (le-ltb (suc (length rest)) 1 (omega arith)) (ap (λ m. Ok (m, rest)) value)
@@ -106,16 +107,16 @@ value_at-again ValueKind.int (KeptValue.int (negsuc n)) h rest =
 value_at-again ValueKind.text (KeptValue.text bytes) h rest = rw (text_at-again bytes h rest) refl
 value_at-again _ _ h rest = absurd h
 
-pub id_at-again : (tags : List (List ℕ)) (id : ℕ) → id < length tags → id < 2 ^ 63 → Again (id_at tags) (vbe_u id) id
+pub id_at-again : (tags : List (List ℕ)) (id : ℕ) → id < length tags → id < 2 ^ 63 → Again (id_at tags) (vbe_unsigned id) id
 unfolding Again id_at
 id_at-again tags id known fits rest = rw (number-again id fits rest, lt-ltb id (length tags) known) refl
 
-ids-again : (tags : List (List ℕ)) (kept : List Kept) → AllByRecursion (IsKeptOf tags) kept → (rest : List ℕ) → times (length kept) (id_at tags) (flat_map (λ k. vbe_u k.id) kept ++ rest) ≡ Ok (map (λ k. k.id) kept, rest)
+ids-again : (tags : List (List ℕ)) (kept : List Kept) → AllByRecursion (IsKeptOf tags) kept → (rest : List ℕ) → times (length kept) (id_at tags) (flat_map (λ k. vbe_unsigned k.id) kept ++ rest) ≡ Ok (map (λ k. k.id) kept, rest)
 unfolding times Again
 ids-again tags [] h rest = refl
 ids-again tags (k ∷ kept) h rest =
-    ap (times (suc (length kept)) (id_at tags)) (append_assoc (vbe_u k.id) (flat_map (λ k. vbe_u k.id) kept) rest)
-    ∙ rw (id_at-again tags k.id h.0.0 h.0.1 (flat_map (λ k. vbe_u k.id) kept ++ rest), ids-again tags kept h.1 rest) refl
+    ap (times (suc (length kept)) (id_at tags)) (append_assoc (vbe_unsigned k.id) (flat_map (λ k. vbe_unsigned k.id) kept) rest)
+    ∙ rw (id_at-again tags k.id h.0.0 h.0.1 (flat_map (λ k. vbe_unsigned k.id) kept ++ rest), ids-again tags kept h.1 rest) refl
 
 values-again : (tags : List (List ℕ)) (kept : List Kept) → AllByRecursion (IsKeptOf tags) kept → (rest : List ℕ) → each (kept_at tags) (map (λ k. k.id) kept) (flat_map (λ k. value_bytes k.value) kept ++ rest) ≡ Ok (kept, rest)
 unfolding each Again
@@ -125,10 +126,10 @@ values-again tags (k ∷ kept) h rest =
     ∙ rw (value_at-again (value_kind (tag_at tags k.id)) k.value h.0.2 (flat_map (λ k. value_bytes k.value) kept ++ rest), values-again tags kept h.1 rest) refl
 
 pub tags_at-again : (tags : List (List ℕ)) (kept : List Kept) → AllByRecursion (IsKeptOf tags) kept → (rest : List ℕ)
-    → tags_at tags (length kept) (flat_map (λ k. vbe_u k.id) kept ++ flat_map (λ k. value_bytes k.value) kept ++ rest) ≡ Ok (kept, rest)
+    → tags_at tags (length kept) (flat_map (λ k. vbe_unsigned k.id) kept ++ flat_map (λ k. value_bytes k.value) kept ++ rest) ≡ Ok (kept, rest)
 unfolding tags_at
 tags_at-again tags kept h rest =
-    ap (tags_at tags (length kept)) (append_assoc (flat_map (λ k. vbe_u k.id) kept) (flat_map (λ k. value_bytes k.value) kept) rest)
+    ap (tags_at tags (length kept)) (append_assoc (flat_map (λ k. vbe_unsigned k.id) kept) (flat_map (λ k. value_bytes k.value) kept) rest)
     ∙ rw (ids-again tags kept h (flat_map (λ k. value_bytes k.value) kept ++ rest), values-again tags kept h rest) refl
 
 -- ---- flags
@@ -157,9 +158,9 @@ unfolding Again
 where_set-again read bytes Fits again None h rest = refl
 where_set-again read bytes Fits again (Some x) h rest = rw (again x h rest) refl
 
-height-again : (n : ℤ) → is_in_32 n ≡ true → Again (ranged (pos 0)) (vbe_s n) n
+height-again : (n : ℤ) → is_signed_32 n ≡ true → Again (ranged (pos 0)) (vbe_signed n) n
 unfolding Again
-height-again n h rest = ap (λ z. ranged (pos 0) (vbe_s z ++ rest)) (sym (minus_zero n)) ∙ ranged-again (pos 0) n refl h rest
+height-again n h rest = ap (λ z. ranged (pos 0) (vbe_signed z ++ rest)) (sym (minus_zero n)) ∙ ranged-again (pos 0) n refl h rest
   where
     minus_zero : (z : ℤ) → z -ℤ pos 0 ≡ z
     minus_zero z = +ℤ_comm z (pos 0) ∙ zero_plus z
@@ -186,7 +187,7 @@ poi_flag p few =
 
 -- the layer, the tags and what follows them
 after_layer : List Kept → List ℕ → List ℕ
-after_layer tags rest = flat_map (λ k. vbe_u k.id) tags ++ flat_map (λ k. value_bytes k.value) tags ++ rest
+after_layer tags rest = flat_map (λ k. vbe_unsigned k.id) tags ++ flat_map (λ k. value_bytes k.value) tags ++ rest
 
 tag_bytes-split : (layer : ℤ) (tags : List Kept) (rest : List ℕ) → tag_bytes layer tags ++ rest ≡ layer_byte layer (length tags) ∷ after_layer tags rest
 unfolding tag_bytes after_layer
@@ -203,11 +204,11 @@ pub poi_at-again : (names : List (List ℕ)) (corner : Place) (p : PoiFields) �
 unfolding Again poi_at poi_fields_bytes
 poi_at-again names corner p hc h rest =
     let flags = poi_flag p h.other in
-    let after_house = optional vbe_s p.height ++ rest in
+    let after_house = optional vbe_signed p.height ++ rest in
     let after_name = optional string p.house ++ after_house in
     let after_flags = optional string p.name ++ after_name in
     let after_tags = poi_flags p ∷ after_flags in
-    ap (poi_at names corner) (regroup (step_bytes (step corner p.place)) (tag_bytes p.layer p.tags) (poi_flags p) (optional string p.name) (optional string p.house) (optional vbe_s p.height) rest
+    ap (poi_at names corner) (regroup (step_bytes (step corner p.place)) (tag_bytes p.layer p.tags) (poi_flags p) (optional string p.name) (optional string p.house) (optional vbe_signed p.height) rest
     ∙ ap (λ t. step_bytes (step corner p.place) ++ t) (tag_bytes-split p.layer p.tags after_tags))
     ∙ rw (
       place_from-again corner p.place hc h.place (layer_byte p.layer (length p.tags) ∷ after_layer p.tags after_tags),
@@ -220,7 +221,7 @@ poi_at-again names corner p hc h rest =
       flags.3,
       where_set-again text_at string IsText text_at-again p.name h.name after_name,
       where_set-again text_at string IsText text_at-again p.house h.house after_house,
-      where_set-again (ranged (pos 0)) vbe_s (λ n. IsTrue (is_in_32 n)) height-again p.height h.height rest,
+      where_set-again (ranged (pos 0)) vbe_signed (λ n. IsTrue (is_signed_32 n)) height-again p.height h.height rest,
     ) refl
 
 -- ---- way
@@ -252,7 +253,7 @@ way_flag w few =
 
 -- the number of data blocks, where it is told
 count_bytes : Bool → List (List (List Place)) → List ℕ
-count_bytes counted blocks = cond counted (vbe_u (length blocks)) []
+count_bytes counted blocks = cond counted (vbe_unsigned (length blocks)) []
 
 block_count-again : (counted : Bool) (blocks : List (List (List Place))) → (counted ≡ false → length blocks ≡ 1) → 1 ≤ length blocks → length blocks < 2 ^ 63 → (rest : List ℕ) → block_count_at counted (count_bytes counted blocks ++ rest) ≡ Ok (length blocks, rest)
 unfolding count_bytes Again
@@ -269,16 +270,16 @@ blocks_again corner counted double blocks hc single some few h rest =
     all rest = times-again (block_at corner double) (block_bytes corner double) IsBlock (λ rings hr. block_at-again corner double rings hc hr) blocks h rest
 
 -- a block begins with the number of its rings, and a ring with the number of its places and the first of them
-first_of_ring : (corner : Place) (double : Bool) (p : Place) (ps : List Place) (rest : List ℕ) → (after : List ℕ) × (ring_bytes corner double (p ∷ ps) ++ rest ≡ vbe_u (suc (length ps)) ++ (step_bytes (step corner p) ++ after))
+first_of_ring : (corner : Place) (double : Bool) (p : Place) (ps : List Place) (rest : List ℕ) → (after : List ℕ) × (ring_bytes corner double (p ∷ ps) ++ rest ≡ vbe_unsigned (suc (length ps)) ++ (step_bytes (step corner p) ++ after))
 unfolding ring_bytes
 first_of_ring corner double p ps rest = (
   after_first double p ps ++ rest,
-  ap (λ c. vbe_u (suc (length ps)) ++ c ++ rest) (coordinates-split corner double p ps)
-      ∙ append_assoc (vbe_u (suc (length ps))) (step_bytes (step corner p) ++ after_first double p ps) rest
-      ∙ ap (λ c. vbe_u (suc (length ps)) ++ c) (append_assoc (step_bytes (step corner p)) (after_first double p ps) rest),
+  ap (λ c. vbe_unsigned (suc (length ps)) ++ c ++ rest) (coordinates-split corner double p ps)
+      ∙ append_assoc (vbe_unsigned (suc (length ps))) (step_bytes (step corner p) ++ after_first double p ps) rest
+      ∙ ap (λ c. vbe_unsigned (suc (length ps)) ++ c) (append_assoc (step_bytes (step corner p)) (after_first double p ps) rest),
 )
 
-first_of_block : (corner : Place) (double : Bool) (ring : List Place) (rings : List (List Place)) (rest : List ℕ) → block_bytes corner double (ring ∷ rings) ++ rest ≡ vbe_u (suc (length rings)) ++ (ring_bytes corner double ring ++ (flat_map (ring_bytes corner double) rings ++ rest))
+first_of_block : (corner : Place) (double : Bool) (ring : List Place) (rings : List (List Place)) (rest : List ℕ) → block_bytes corner double (ring ∷ rings) ++ rest ≡ vbe_unsigned (suc (length rings)) ++ (ring_bytes corner double ring ++ (flat_map (ring_bytes corner double) rings ++ rest))
 unfolding block_bytes
 first_of_block corner double ring rings rest = simp append_assoc refl
 
@@ -293,20 +294,20 @@ first_place-again corner counted double (((p ∷ ps) ∷ rings) ∷ blocks) hc s
     let all = ((p ∷ ps) ∷ rings) ∷ blocks in
     let behind = flat_map (ring_bytes corner double) rings ++ (flat_map (block_bytes corner double) blocks ++ rest) in
     let ring = first_of_ring corner double p ps behind in
-    let regrouped : flat_map (block_bytes corner double) all ++ rest ≡ vbe_u (suc (length rings)) ++ (vbe_u (suc (length ps)) ++ (step_bytes (step corner p) ++ ring.0)) =
+    let regrouped : flat_map (block_bytes corner double) all ++ rest ≡ vbe_unsigned (suc (length rings)) ++ (vbe_unsigned (suc (length ps)) ++ (step_bytes (step corner p) ++ ring.0)) =
     append_assoc (block_bytes corner double ((p ∷ ps) ∷ rings)) (flat_map (block_bytes corner double) blocks) rest
     ∙ first_of_block corner double (p ∷ ps) rings (flat_map (block_bytes corner double) blocks ++ rest)
-    ∙ ap (λ c. vbe_u (suc (length rings)) ++ c) ring.1 in (
+    ∙ ap (λ c. vbe_unsigned (suc (length rings)) ++ c) ring.1 in (
       ring.0,
       ap (λ c. first_place_at corner counted (count_bytes counted all ++ c)) regrouped ∙ reads,
     )
   where
-    reads : first_place_at corner counted (count_bytes counted (((p ∷ ps) ∷ rings) ∷ blocks) ++ (vbe_u (suc (length rings)) ++ (vbe_u (suc (length ps)) ++ (step_bytes (step corner p) ++ (first_of_ring corner double p ps (flat_map (ring_bytes corner double) rings ++ (flat_map (block_bytes corner double) blocks ++ rest))).0)))) ≡ Ok (p, (first_of_ring corner double p ps (flat_map (ring_bytes corner double) rings ++ (flat_map (block_bytes corner double) blocks ++ rest))).0)
+    reads : first_place_at corner counted (count_bytes counted (((p ∷ ps) ∷ rings) ∷ blocks) ++ (vbe_unsigned (suc (length rings)) ++ (vbe_unsigned (suc (length ps)) ++ (step_bytes (step corner p) ++ (first_of_ring corner double p ps (flat_map (ring_bytes corner double) rings ++ (flat_map (block_bytes corner double) blocks ++ rest))).0)))) ≡ Ok (p, (first_of_ring corner double p ps (flat_map (ring_bytes corner double) rings ++ (flat_map (block_bytes corner double) blocks ++ rest))).0)
     reads =
         let after = (first_of_ring corner double p ps (flat_map (ring_bytes corner double) rings ++ (flat_map (block_bytes corner double) blocks ++ rest))).0 in
         rw (
-          block_count-again counted (((p ∷ ps) ∷ rings) ∷ blocks) single some few (vbe_u (suc (length rings)) ++ (vbe_u (suc (length ps)) ++ (step_bytes (step corner p) ++ after))),
-          count_from-again 1 (suc (length rings)) h.0.0 h.0.1 (vbe_u (suc (length ps)) ++ (step_bytes (step corner p) ++ after)),
+          block_count-again counted (((p ∷ ps) ∷ rings) ∷ blocks) single some few (vbe_unsigned (suc (length rings)) ++ (vbe_unsigned (suc (length ps)) ++ (step_bytes (step corner p) ++ after))),
+          count_from-again 1 (suc (length rings)) h.0.0 h.0.1 (vbe_unsigned (suc (length ps)) ++ (step_bytes (step corner p) ++ after)),
           count_from-again 2 (suc (length ps)) h.0.2.0.0 h.0.2.0.1 (step_bytes (step corner p) ++ after),
           place_from-again corner p hc h.0.2.0.2.0 after,
         ) refl
@@ -314,8 +315,8 @@ first_place-again corner counted double (((p ∷ ps) ∷ rings) ∷ blocks) hc s
 two_signed-again : (a p : Place) → IsInRange a → IsInRange p → Again two_signed (step_bytes (step a p)) (p.lat -ℤ a.lat, p.lon -ℤ a.lon)
 unfolding Again two_signed
 two_signed-again a p ha hp rest =
-    ap two_signed (append_assoc (vbe_s (p.lat -ℤ a.lat)) (vbe_s (p.lon -ℤ a.lon)) rest)
-    ∙ rw (signed-again (p.lat -ℤ a.lat) (nat_abs-step a.lat p.lat ha.0 hp.0) (vbe_s (p.lon -ℤ a.lon) ++ rest), signed-again (p.lon -ℤ a.lon) (nat_abs-step a.lon p.lon ha.1 hp.1) rest) refl
+    ap two_signed (append_assoc (vbe_signed (p.lat -ℤ a.lat)) (vbe_signed (p.lon -ℤ a.lon)) rest)
+    ∙ rw (signed-again (p.lat -ℤ a.lat) (nat_abs-step a.lat p.lat ha.0 hp.0) (vbe_signed (p.lon -ℤ a.lon) ++ rest), signed-again (p.lon -ℤ a.lon) (nat_abs-step a.lon p.lon ha.1 hp.1) rest) refl
 
 first_in_range : (blocks : List (List (List Place))) → 1 ≤ length blocks → AllByRecursion IsBlock blocks → IsInRange (first_of_blocks blocks)
 first_in_range [] some h = absurd (omega (arith, some))
@@ -355,8 +356,8 @@ way_body_at-again names corner w hc h rest =
     let after_flags = optional string w.name ++ after_name in
     let after_tags = way_flags w ∷ after_flags in
     let tags = layer_byte w.layer (length w.tags) ∷ after_layer w.tags after_tags in
-    ap (way_body_at names corner) (regroup_way (be 2 w.bits) (tag_bytes w.layer w.tags) (way_flags w) (optional string w.name) (optional string w.house) (optional string w.reference) (label_bytes w.blocks w.label) (count_bytes w.counted w.blocks) (flat_map (block_bytes corner w.double) w.blocks) rest
-    ∙ ap (λ t. be 2 w.bits ++ t) (tag_bytes-split w.layer w.tags after_tags))
+    ap (way_body_at names corner) (regroup_way (big_endian 2 w.bits) (tag_bytes w.layer w.tags) (way_flags w) (optional string w.name) (optional string w.house) (optional string w.reference) (label_bytes w.blocks w.label) (count_bytes w.counted w.blocks) (flat_map (block_bytes corner w.double) w.blocks) rest
+    ∙ ap (λ t. big_endian 2 w.bits ++ t) (tag_bytes-split w.layer w.tags after_tags))
     ∙ rw (
       fixed_number-again 2 w.bits h.bits tags,
       layer_at-again w.layer (length w.tags) (after_layer w.tags after_tags) h.layer h.few,
@@ -377,7 +378,7 @@ way_body_at-again names corner w hc h rest =
 pub way_at-again : (names : List (List ℕ)) (corner : Place) (w : WayFields) → IsInRange corner → IsWay names w → length (way_body_bytes corner w) < 2 ^ 63 → Again (way_at names corner) (way_fields_bytes corner w) w
 unfolding Again way_at way_fields_bytes sized
 way_at-again names corner w hc h few rest =
-    ap (way_at names corner) (append_assoc (vbe_u (length (way_body_bytes corner w))) (way_body_bytes corner w) rest)
+    ap (way_at names corner) (append_assoc (vbe_unsigned (length (way_body_bytes corner w))) (way_body_bytes corner w) rest)
     ∙ rw (
       number-again (length (way_body_bytes corner w)) few (way_body_bytes corner w ++ rest),
       way_body_at-again names corner w hc h rest,
@@ -393,8 +394,8 @@ counts-again : (names : TagLists) (levels : List Level) → AllByRecursion (IsLe
 unfolding times counts_at counts_of Again
 counts-again names [] h rest = refl
 counts-again names (l ∷ levels) h rest =
-    ap (times (suc (length levels)) counts_at) (append_assoc (level_count_bytes l) (flat_map level_count_bytes levels) rest ∙ append_assoc (vbe_u (length l.pois)) (vbe_u (length l.ways)) (flat_map level_count_bytes levels ++ rest))
-    ∙ rw (number-again (length l.pois) h.0.counts.0 (vbe_u (length l.ways) ++ (flat_map level_count_bytes levels ++ rest)), number-again (length l.ways) h.0.counts.1 (flat_map level_count_bytes levels ++ rest), counts-again names levels h.1 rest) refl
+    ap (times (suc (length levels)) counts_at) (append_assoc (level_count_bytes l) (flat_map level_count_bytes levels) rest ∙ append_assoc (vbe_unsigned (length l.pois)) (vbe_unsigned (length l.ways)) (flat_map level_count_bytes levels ++ rest))
+    ∙ rw (number-again (length l.pois) h.0.counts.0 (vbe_unsigned (length l.ways) ++ (flat_map level_count_bytes levels ++ rest)), number-again (length l.ways) h.0.counts.1 (flat_map level_count_bytes levels ++ rest), counts-again names levels h.1 rest) refl
 
 pois_bytes : Place → List Level → List ℕ
 pois_bytes corner levels = flat_map (λ level. flat_map (poi_fields_bytes corner) level.pois) levels
@@ -420,7 +421,7 @@ unfolding way_fields_bytes sized
 small_ways names corner [] h few = h
 small_ways names corner (w ∷ ws) h few =
     let a = length-append (way_fields_bytes corner w) (flat_map (way_fields_bytes corner) ws) in
-    let b = length-append (vbe_u (length (way_body_bytes corner w))) (way_body_bytes corner w) in
+    let b = length-append (vbe_unsigned (length (way_body_bytes corner w))) (way_body_bytes corner w) in
     (record { way = h.0; small = omega (arith, few, a, b) }, small_ways names corner ws h.1 (omega (arith, few, a)))
 
 ways-again : (names : TagLists) (corner : Place) (levels : List Level) → IsInRange corner → AllByRecursion (IsLevel names) levels → length (ways_bytes corner levels) < 2 ^ 63 → (rest : List ℕ)
@@ -438,15 +439,15 @@ levels_of_parts [] = refl
 levels_of_parts (l ∷ levels) = λ i. l ∷ levels_of_parts levels i
 
 levels_parts : Place → List Level → List ℕ
-levels_parts corner levels = flat_map level_count_bytes levels ++ (vbe_u (length (pois_bytes corner levels)) ++ (pois_bytes corner levels ++ ways_bytes corner levels))
+levels_parts corner levels = flat_map level_count_bytes levels ++ (vbe_unsigned (length (pois_bytes corner levels)) ++ (pois_bytes corner levels ++ ways_bytes corner levels))
 
 levels_bytes-parts : (corner : Place) (levels : List Level) → levels_bytes corner levels ≡ levels_parts corner levels
 unfolding levels_bytes sized levels_parts pois_bytes ways_bytes
 levels_bytes-parts corner levels =
-    append_assoc (flat_map level_count_bytes levels) (vbe_u (length (pois_bytes corner levels)) ++ pois_bytes corner levels) (ways_bytes corner levels)
-    ∙ ap (λ c. flat_map level_count_bytes levels ++ c) (append_assoc (vbe_u (length (pois_bytes corner levels))) (pois_bytes corner levels) (ways_bytes corner levels))
+    append_assoc (flat_map level_count_bytes levels) (vbe_unsigned (length (pois_bytes corner levels)) ++ pois_bytes corner levels) (ways_bytes corner levels)
+    ∙ ap (λ c. flat_map level_count_bytes levels ++ c) (append_assoc (vbe_unsigned (length (pois_bytes corner levels))) (pois_bytes corner levels) (ways_bytes corner levels))
 
-number-read : (n : ℕ) → n < 2 ^ 63 → (rest : List ℕ) → number (vbe_u n ++ rest) ≡ Ok (n, rest)
+number-read : (n : ℕ) → n < 2 ^ 63 → (rest : List ℕ) → number (vbe_unsigned n ++ rest) ≡ Ok (n, rest)
 unfolding Again
 number-read n fits rest = number-again n fits rest
 
@@ -456,8 +457,8 @@ unfolding levels_at levels_parts
 levels_at-again names interval corner bytes levels hc h =
     let spelt = h.spelt ∙ levels_bytes-parts corner levels in
     let all = ap length spelt in
-    let a = length-append (flat_map level_count_bytes levels) (vbe_u (length (pois_bytes corner levels)) ++ (pois_bytes corner levels ++ ways_bytes corner levels)) in
-    let b = length-append (vbe_u (length (pois_bytes corner levels))) (pois_bytes corner levels ++ ways_bytes corner levels) in
+    let a = length-append (flat_map level_count_bytes levels) (vbe_unsigned (length (pois_bytes corner levels)) ++ (pois_bytes corner levels ++ ways_bytes corner levels)) in
+    let b = length-append (vbe_unsigned (length (pois_bytes corner levels))) (pois_bytes corner levels ++ ways_bytes corner levels) in
     let c = length-append (pois_bytes corner levels) (ways_bytes corner levels) in
     let small = h.small in
     let few_pois : length (pois_bytes corner levels) < 2 ^ 63 = omega (arith, all, a, b, c, small) in
@@ -465,7 +466,7 @@ levels_at-again names interval corner bytes levels hc h =
     ap (levels_at names interval corner) spelt
     ∙ rw (
       sym h.all,
-      counts-again names levels h.each (vbe_u (length (pois_bytes corner levels)) ++ (pois_bytes corner levels ++ ways_bytes corner levels)),
+      counts-again names levels h.each (vbe_unsigned (length (pois_bytes corner levels)) ++ (pois_bytes corner levels ++ ways_bytes corner levels)),
       number_again few_pois,
       pois-again names corner levels hc h.each (ways_bytes corner levels),
       eq-eqb (length (pois_bytes corner levels) + length (ways_bytes corner levels)) (length (pois_bytes corner levels ++ ways_bytes corner levels)) (sym c),
@@ -473,7 +474,7 @@ levels_at-again names interval corner bytes levels hc h =
       levels_of_parts levels,
     ) refl
   where
-    number_again : length (pois_bytes corner levels) < 2 ^ 63 → number (vbe_u (length (pois_bytes corner levels)) ++ (pois_bytes corner levels ++ ways_bytes corner levels)) ≡ Ok (length (pois_bytes corner levels), pois_bytes corner levels ++ ways_bytes corner levels)
+    number_again : length (pois_bytes corner levels) < 2 ^ 63 → number (vbe_unsigned (length (pois_bytes corner levels)) ++ (pois_bytes corner levels ++ ways_bytes corner levels)) ≡ Ok (length (pois_bytes corner levels), pois_bytes corner levels ++ ways_bytes corner levels)
     number_again few = number-read (length (pois_bytes corner levels)) few (pois_bytes corner levels ++ ways_bytes corner levels)
 
     last : length (ways_bytes corner levels) < 2 ^ 63 → each (λ c. times c.1 (way_at names.way corner)) (map counts_of levels) (ways_bytes corner levels) ≡ Ok (map (λ l. l.ways) levels, [])
@@ -490,9 +491,9 @@ not_empty : (names : TagLists) (interval : Interval) (corner : Place) (levels : 
 unfolding levels_parts
 not_empty names interval corner levels h =
     let all = ap length (h.spelt ∙ levels_bytes-parts corner levels) in
-    let a = length-append (flat_map level_count_bytes levels) (vbe_u (length (pois_bytes corner levels)) ++ (pois_bytes corner levels ++ ways_bytes corner levels)) in
-    let b = length-append (vbe_u (length (pois_bytes corner levels))) (pois_bytes corner levels ++ ways_bytes corner levels) in
-    let some = length-vbe_u-positive (length (pois_bytes corner levels)) in
+    let a = length-append (flat_map level_count_bytes levels) (vbe_unsigned (length (pois_bytes corner levels)) ++ (pois_bytes corner levels ++ ways_bytes corner levels)) in
+    let b = length-append (vbe_unsigned (length (pois_bytes corner levels))) (pois_bytes corner levels ++ ways_bytes corner levels) in
+    let some = length-vbe_unsigned-positive (length (pois_bytes corner levels)) in
     omega (arith, all, a, b, some)
 
 read_tile-spelt : (names : TagLists) (tile : TilePlace) (bytes : List ℕ) (levels : List Level) → IsInRange (tile_corner tile) → SpellsLevels names tile.interval (tile_corner tile) bytes levels → read_tile names tile bytes ≡ Ok (shown_levels names tile.interval levels)

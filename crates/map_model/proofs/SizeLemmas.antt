@@ -8,7 +8,7 @@ use Rattle.std.proofs.lemmas.List.FromFn.{length-range_with_len}
 use Rattle.std.proofs.lemmas.List.Concat.{length-flat_map}
 use Rattle.byteorder.specs.Endian.{big_number}
 use Rattle.byteorder.specs.Numbers.{length-bytes_high_first, big_number-reads_back}
-use Rattle.mf_base.specs.Spelling.{be}
+use Rattle.mf_base.specs.Spelling.{big_endian}
 use Rattle.mf_base.specs.declared.place.Rect.{Rect}
 use Rattle.mf_base.specs.declared.tile.Interval.{Interval}
 use Rattle.map_model.specs.SubFile.{Piece, entry_bytes, offset_of, index_bytes, sub_file_of, sub_file_size}
@@ -16,13 +16,13 @@ use Rattle.map_model.specs.Listed.{TagLists}
 use Rattle.map_model.specs.Header.{HeadSettings, SubFile, HeaderFields, box_bytes, interval_bytes, middle_bytes, fields_bytes, header_fields_bytes, written_header, header_size, header_bytes}
 use Rattle.map_model.specs.Listing.{entry_of}
 
-pub length-be : (width n : ℕ) → length (be width n) ≡ width
-unfolding be
-length-be width n = length-bytes_high_first width n
+pub length-big_endian : (width n : ℕ) → length (big_endian width n) ≡ width
+unfolding big_endian
+length-big_endian width n = length-bytes_high_first width n
 
 fives : (ps : List Piece) (xs : List (ℕ × Piece)) → length (flat_map (λ at. entry_bytes at.1.water (offset_of ps at.0)) xs) ≡ 5 * length xs
 fives ps [] = refl
-fives ps (x ∷ xs) = rw (length-append (entry_bytes x.1.water (offset_of ps x.0)) (flat_map (λ at. entry_bytes at.1.water (offset_of ps at.0)) xs), length-be 5 ((cond x.1.water (2 ^ 39) 0) + offset_of ps x.0), fives ps xs) (omega arith)
+fives ps (x ∷ xs) = rw (length-append (entry_bytes x.1.water (offset_of ps x.0)) (flat_map (λ at. entry_bytes at.1.water (offset_of ps at.0)) xs), length-big_endian 5 ((cond x.1.water (2 ^ 39) 0) + offset_of ps x.0), fives ps xs) (omega arith)
 
 -- the index has five bytes for each tile
 pub length-index_bytes : (ps : List Piece) → length (index_bytes ps) ≡ 5 * length ps
@@ -35,7 +35,7 @@ length-sub_file ps = length-append (index_bytes ps) (flat_map (λ p. p.bytes) ps
 
 -- an entry is read again, whatever follows
 pub entry-again : (water : Bool) (offset : ℕ) (rest : List ℕ) → offset < 2 ^ 39 → entry_of (big_number 5 (entry_bytes water offset ++ rest)) ≡ record { water = water; offset = offset }
-unfolding be
+unfolding big_endian
 entry-again true offset rest fits =
     rw (big_number-reads_back 5 (2 ^ 39 + offset) rest (omega (arith, fits)))
     (λ i. record { water = eq-eqb ((2 ^ 39 + offset) / 2 ^ 39) 1 (omega (arith, fits)) i; offset = high i })
@@ -57,19 +57,19 @@ nineteen (x ∷ xs) =
     rw (
       length-append (interval_bytes x) (flat_map interval_bytes xs),
       nineteen xs,
-      length-append (be 1 x.0.base ++ be 1 x.0.min ++ be 1 x.0.max ++ be 8 x.1.start) (be 8 x.1.size),
-      length-append (be 1 x.0.base ++ be 1 x.0.min ++ be 1 x.0.max) (be 8 x.1.start),
-      length-append (be 1 x.0.base ++ be 1 x.0.min) (be 1 x.0.max),
-      length-append (be 1 x.0.base) (be 1 x.0.min),
-      length-be 1 x.0.base,
-      length-be 1 x.0.min,
-      length-be 1 x.0.max,
-      length-be 8 x.1.start,
-      length-be 8 x.1.size,
+      length-append (big_endian 1 x.0.base ++ big_endian 1 x.0.min ++ big_endian 1 x.0.max ++ big_endian 8 x.1.start) (big_endian 8 x.1.size),
+      length-append (big_endian 1 x.0.base ++ big_endian 1 x.0.min ++ big_endian 1 x.0.max) (big_endian 8 x.1.start),
+      length-append (big_endian 1 x.0.base ++ big_endian 1 x.0.min) (big_endian 1 x.0.max),
+      length-append (big_endian 1 x.0.base) (big_endian 1 x.0.min),
+      length-big_endian 1 x.0.base,
+      length-big_endian 1 x.0.min,
+      length-big_endian 1 x.0.max,
+      length-big_endian 8 x.1.start,
+      length-big_endian 8 x.1.size,
     ) (omega arith)
 
 length-box : (box : Rect) → length (box_bytes box) ≡ 16
-length-box box = simp (length-append, length-be) refl
+length-box box = simp (length-append, length-big_endian) refl
 
 pub length-fields : (total : ℕ) (h : HeaderFields) → length h.subs ≡ length h.settings.intervals
     → length (fields_bytes total h) ≡ 36 + length (middle_bytes h.tile_size h.other h.settings h.names) + 19 * length h.settings.intervals + length h.after
@@ -79,7 +79,7 @@ length-fields total h same =
     let n : length (zip h.settings.intervals h.subs) ≡ length h.settings.intervals = omega (arith, zipped, same) in
     let all = nineteen (zip h.settings.intervals h.subs) in
     let box = length-box h.bounds in
-    simp (length-append, length-be) (omega (arith, all, n, box))
+    simp (length-append, length-big_endian) (omega (arith, all, n, box))
 
 -- the header has the size that is counted without its sub-files
 pub length-header_bytes : (set : HeadSettings) (box : Rect) (names : TagLists) (subs : List SubFile) → length subs ≡ length set.intervals
@@ -88,6 +88,6 @@ unfolding header_bytes header_fields_bytes header_size written_header
 length-header_bytes set box names subs same =
     let total = header_size set names + sum_by (λ (s : SubFile). s.size) subs in
     let fields = length-fields total (written_header set box names subs) same in
-    simp (length-append, length-be) (omega (arith, fields))
+    simp (length-append, length-big_endian) (omega (arith, fields))
 
 pub ruleset size_laws = (length-header_bytes, length-sub_file, length-index_bytes, entry-again)

@@ -1,7 +1,7 @@
 -- The header of a map: Mapsforge map format 5, on the file header.
 use Rattle.std.specs.Prelude.{ℕ, ◌+◌, ◌*◌, ℤ, List, [], ◌∷◌, ◌++◌, zip, flat_map, length, sum_by, Option, is_some, codes}
 use Rattle.std.specs.Int.{w32, cast_unsigned}
-use Rattle.mf_base.specs.Spelling.{string, be}
+use Rattle.mf_base.specs.Spelling.{string, big_endian}
 use Rattle.mf_base.specs.declared.place.Place.{Place}
 use Rattle.mf_base.specs.declared.place.Rect.{Rect}
 use Rattle.mf_base.specs.declared.tile.Interval.{Interval}
@@ -31,7 +31,7 @@ mercator_word = codes "Mercator"
 
 -- a signed number of four bytes, in two's complement
 abbrev pub be_signed : ℤ → List ℕ
-be_signed z = be 4 (cast_unsigned w32 z)
+be_signed z = big_endian 4 (cast_unsigned w32 z)
 
 abbrev pub box_bytes : Rect → List ℕ
 box_bytes box = be_signed box.min_lat ++ be_signed box.min_lon ++ be_signed box.max_lat ++ be_signed box.max_lon
@@ -41,7 +41,7 @@ head_flags set = flag (is_some set.start) 0x40 + flag (is_some set.start_zoom) 0
 
 -- a count of two bytes, and a string for each tag
 abbrev pub tag_list_bytes : List (List ℕ) → List ℕ
-tag_list_bytes tags = be 2 (length tags) ++ flat_map string tags
+tag_list_bytes tags = big_endian 2 (length tags) ++ flat_map string tags
 
 -- What a header tells. `other` are the flag bits that have no name, and `after` the bytes after its last field.
 pub record HeaderFields : Type 0 where
@@ -56,27 +56,27 @@ pub record HeaderFields : Type 0 where
 -- the fields from the tile size to the number of intervals
 unfoldable pub middle_bytes : ℕ → ℕ → HeadSettings → TagLists → List ℕ
 middle_bytes tile_size other set names =
-    be 2 tile_size ++ string mercator_word ++ (head_flags set + other)
+    big_endian 2 tile_size ++ string mercator_word ++ (head_flags set + other)
     ∷ optional (λ p. be_signed p.lat ++ be_signed p.lon) set.start
-    ++ optional (be 1) set.start_zoom
+    ++ optional (big_endian 1) set.start_zoom
     ++ optional string set.language ++ optional string set.comment ++ optional string set.created_by
     ++ tag_list_bytes names.poi ++ tag_list_bytes names.way
-    ++ be 1 (length set.intervals)
+    ++ big_endian 1 (length set.intervals)
 
 abbrev pub interval_bytes : Interval × SubFile → List ℕ
-interval_bytes at = be 1 at.0.base ++ be 1 at.0.min ++ be 1 at.0.max ++ be 8 at.1.start ++ be 8 at.1.size
+interval_bytes at = big_endian 1 at.0.base ++ big_endian 1 at.0.min ++ big_endian 1 at.0.max ++ big_endian 8 at.1.start ++ big_endian 8 at.1.size
 
 -- the fields after the header size, in a file of so many bytes
 unfoldable pub fields_bytes : ℕ → HeaderFields → List ℕ
 fields_bytes total h =
-    be 4 5 ++ be 8 total ++ be 8 h.settings.date ++ box_bytes h.bounds
+    big_endian 4 5 ++ big_endian 8 total ++ big_endian 8 h.settings.date ++ box_bytes h.bounds
     ++ middle_bytes h.tile_size h.other h.settings h.names
     ++ flat_map interval_bytes (zip h.settings.intervals h.subs)
     ++ h.after
 
 -- the header size counts the bytes after its own field
 unfoldable pub header_fields_bytes : ℕ → HeaderFields → List ℕ
-header_fields_bytes total h = magic_word ++ be 4 (length (fields_bytes total h)) ++ fields_bytes total h
+header_fields_bytes total h = magic_word ++ big_endian 4 (length (fields_bytes total h)) ++ fields_bytes total h
 
 -- what is written in the header
 unfoldable pub written_header : HeadSettings → Rect → TagLists → List SubFile → HeaderFields

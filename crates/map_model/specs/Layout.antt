@@ -1,7 +1,7 @@
 -- The bytes of a POI, a way and a tile: Mapsforge map format 5, on tile header, POIs and ways; variable values are this project's profile.
 use Rattle.std.specs.Prelude.{ℕ, ◌+◌, ◌*◌, if◌then◌else◌, Bool, ℤ, pos, ◌+ℤ◌, ◌-ℤ◌, List, [], ◌∷◌, ◌++◌, flat_map, length, Option, Some, None, is_some}
 use Rattle.std.specs.Int.{w8, w16, w32, cast_unsigned}
-use Rattle.mf_base.specs.Spelling.{vbe_u, vbe_s, string, be}
+use Rattle.mf_base.specs.Spelling.{vbe_unsigned, vbe_signed, string, big_endian}
 use Rattle.mf_base.specs.declared.place.Place.{Place}
 use Rattle.feature_model.specs.Mapping.{KeptValue}
 use Rattle.feature_model.specs.Choice.{Kept}
@@ -45,7 +45,7 @@ optional bytes (Some x) = bytes x
 
 -- the length of a part, then the part
 unfoldable pub sized : List ℕ → List ℕ
-sized part = vbe_u (length part) ++ part
+sized part = vbe_unsigned (length part) ++ part
 
 abbrev pub flag : Bool → ℕ → ℕ
 flag set bit = if set then bit else 0
@@ -57,14 +57,14 @@ layer_byte layer tags = 16 * above_zero (layer +ℤ pos 5) + tags
 -- a variable value
 abbrev pub value_bytes : KeptValue → List ℕ
 value_bytes KeptValue.plain = []
-value_bytes (KeptValue.byte n) = be 1 (cast_unsigned w8 n)
-value_bytes (KeptValue.short n) = be 2 (cast_unsigned w16 n)
-value_bytes (KeptValue.int n) = be 4 (cast_unsigned w32 n)
+value_bytes (KeptValue.byte n) = big_endian 1 (cast_unsigned w8 n)
+value_bytes (KeptValue.short n) = big_endian 2 (cast_unsigned w16 n)
+value_bytes (KeptValue.int n) = big_endian 4 (cast_unsigned w32 n)
 value_bytes (KeptValue.text bytes) = string bytes
 
 -- layer and number of tags, the tag ids, then the variable values in the same order
 unfoldable pub tag_bytes : ℤ → List Kept → List ℕ
-tag_bytes layer tags = layer_byte layer (length tags) ∷ flat_map (λ k. vbe_u k.id) tags ++ flat_map (λ k. value_bytes k.value) tags
+tag_bytes layer tags = layer_byte layer (length tags) ∷ flat_map (λ k. vbe_unsigned k.id) tags ++ flat_map (λ k. value_bytes k.value) tags
 
 -- how far b is from a, in latitude and in longitude
 abbrev pub step : Place → Place → Place
@@ -72,7 +72,7 @@ step a b = record { lat = b.lat -ℤ a.lat; lon = b.lon -ℤ a.lon }
 
 -- two signed numbers, latitude before longitude
 abbrev pub step_bytes : Place → List ℕ
-step_bytes s = vbe_s s.lat ++ vbe_s s.lon
+step_bytes s = vbe_signed s.lat ++ vbe_signed s.lon
 
 -- ---- POI
 
@@ -81,7 +81,7 @@ poi_flags p = flag (is_some p.name) 0x80 + flag (is_some p.house) 0x40 + flag (i
 
 unfoldable pub poi_fields_bytes : Place → PoiFields → List ℕ
 poi_fields_bytes corner p =
-    step_bytes (step corner p.place) ++ tag_bytes p.layer p.tags ++ poi_flags p ∷ optional string p.name ++ optional string p.house ++ optional vbe_s p.height
+    step_bytes (step corner p.place) ++ tag_bytes p.layer p.tags ++ poi_flags p ∷ optional string p.name ++ optional string p.house ++ optional vbe_signed p.height
 
 -- ---- way
 
@@ -103,11 +103,11 @@ unfoldable pub coordinate_bytes : Place → Bool → List Place → List ℕ
 coordinate_bytes corner double ring = flat_map step_bytes (ring_steps corner double ring)
 
 unfoldable pub ring_bytes : Place → Bool → List Place → List ℕ
-ring_bytes corner double ring = vbe_u (length ring) ++ coordinate_bytes corner double ring
+ring_bytes corner double ring = vbe_unsigned (length ring) ++ coordinate_bytes corner double ring
 
 -- a data block: the number of its rings, then the rings
 unfoldable pub block_bytes : Place → Bool → List (List Place) → List ℕ
-block_bytes corner double rings = vbe_u (length rings) ++ flat_map (ring_bytes corner double) rings
+block_bytes corner double rings = vbe_unsigned (length rings) ++ flat_map (ring_bytes corner double) rings
 
 abbrev pub way_flags : WayFields → ℕ
 way_flags w = flag (is_some w.name) 0x80 + flag (is_some w.house) 0x40 + flag (is_some w.reference) 0x20 + flag (is_some w.label) 0x10 + flag w.counted 0x08 + flag w.double 0x04 + w.other
@@ -119,9 +119,9 @@ first_of_blocks blocks = first_place (flat_map (λ rings. flat_map (λ ring. rin
 -- the fields after the data size; the label is its place less the first place of the first ring
 unfoldable pub way_body_bytes : Place → WayFields → List ℕ
 way_body_bytes corner w =
-    be 2 w.bits ++ tag_bytes w.layer w.tags ++ way_flags w ∷ optional string w.name ++ optional string w.house ++ optional string w.reference
+    big_endian 2 w.bits ++ tag_bytes w.layer w.tags ++ way_flags w ∷ optional string w.name ++ optional string w.house ++ optional string w.reference
     ++ optional (λ p. step_bytes (step (first_of_blocks w.blocks) p)) w.label
-    ++ (if w.counted then vbe_u (length w.blocks) else [])
+    ++ (if w.counted then vbe_unsigned (length w.blocks) else [])
     ++ flat_map (block_bytes corner w.double) w.blocks
 
 unfoldable pub way_fields_bytes : Place → WayFields → List ℕ
@@ -131,7 +131,7 @@ way_fields_bytes corner w = sized (way_body_bytes corner w)
 
 -- per zoom level the number of POIs and the number of ways
 abbrev pub level_count_bytes : Level → List ℕ
-level_count_bytes level = vbe_u (length level.pois) ++ vbe_u (length level.ways)
+level_count_bytes level = vbe_unsigned (length level.pois) ++ vbe_unsigned (length level.ways)
 
 -- the zoom table, the first-way offset, the POIs, the ways
 unfoldable pub levels_bytes : Place → List Level → List ℕ

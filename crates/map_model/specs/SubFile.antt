@@ -1,7 +1,7 @@
 -- The tile index and the tiles of a zoom interval: Mapsforge map format 5, on sub-files; the water test is this project's profile.
 use Rattle.std.specs.Prelude.{ℕ, ◌+◌, ◌*◌, ◌^◌, if◌then◌else◌, Bool, not, ◌&&◌, List, [], ◌∷◌, ◌++◌, map, zip, flat_map, length, take, sum_by}
 use Rattle.std.specs.List.{range_with_len, list_any, list_all}
-use Rattle.mf_base.specs.Spelling.{be}
+use Rattle.mf_base.specs.Spelling.{big_endian}
 use Rattle.mf_base.specs.declared.place.Place.{Place}
 use Rattle.mf_base.specs.declared.place.Rect.{Rect}
 use Rattle.mf_base.specs.declared.tile.Interval.{Interval}
@@ -40,7 +40,7 @@ pieces features box index interval = map (λ tile. piece_of tile (members featur
 
 -- five bytes: the top bit is the water bit, and the other 39 are the offset
 abbrev pub entry_bytes : Bool → ℕ → List ℕ
-entry_bytes water offset = be 5 ((if water then 2 ^ 39 else 0) + offset)
+entry_bytes water offset = big_endian 5 ((if water then 2 ^ 39 else 0) + offset)
 
 -- the lengths of some pieces together
 abbrev pub size_of_pieces : List Piece → ℕ

@@ -1,6 +1,6 @@
 -- The bytes of features in a tile: Mapsforge map format 5, on tile header, POIs and ways; the choices are this project's profile.
 use Rattle.std.specs.Prelude.{ℕ, nat_lt, ◌==◌, Bool, true, false, List, [], ◌∷◌, ◌++◌, map, flat_map, filter, sum_by, count_by, length}
-use Rattle.mf_base.specs.Spelling.{vbe_u}
+use Rattle.mf_base.specs.Spelling.{vbe_unsigned}
 use Rattle.mf_base.specs.declared.place.Place.{Place}
 use Rattle.mf_base.specs.declared.tile.Interval.{Interval}
 use Rattle.mf_base.specs.declared.tile.TilePlace.{TilePlace}
@@ -53,7 +53,7 @@ zoom_count interval zoom features = count_by (λ f. effective_zoom interval f ==
 -- per zoom level from min to max the number of POIs and the number of ways with that effective zoom
 unfoldable pub zoom_table : Interval → List Feature → List ℕ
 zoom_table interval members =
-    flat_map (λ zoom. vbe_u (zoom_count interval zoom (filter is_poi members)) ++ vbe_u (zoom_count interval zoom (filter is_way members))) (zooms interval)
+    flat_map (λ zoom. vbe_unsigned (zoom_count interval zoom (filter is_poi members)) ++ vbe_unsigned (zoom_count interval zoom (filter is_way members))) (zooms interval)
 
 -- the zoom table, the first-way offset, the POIs, the ways
 unfoldable pub some_tile_bytes : Place → TilePlace → List Feature → List ℕ

@@ -6,15 +6,17 @@ use Rattle.std.specs.Int.{w8, w16, w32, cast_signed}
 use Rattle.mf_base.specs.declared.place.Place.{Place}
 use Rattle.mf_base.specs.declared.tile.Interval.{Interval}
 use Rattle.mf_base.specs.declared.tile.TilePlace.{TilePlace}
-use Rattle.mf_base.specs.NumberReading.{unsigned_at, signed_at}
+use Rattle.mf_base.specs.NumberReading.{unsigned_front, signed_front}
 use Rattle.feature_model.specs.Mapping.{KeptValue}
 use Rattle.feature_model.specs.Choice.{Kept}
-use Rattle.map_model.specs.Numbers.{is_in_32, lies_within}
+use Rattle.mf_base.specs.Ranges.{is_signed_32, lies_within}
+use Rattle.mf_base.specs.Steps.{fault_of}
 use Rattle.map_model.specs.Tiles.{origin, zooms}
 use Rattle.map_model.specs.Layout.{PoiFields, WayFields, Level, step, levels_bytes}
 use Rattle.map_model.specs.TileBytes.{tile_corner}
 use Rattle.map_model.specs.Listed.{TagLists, Listed, ValueKind, value_kind, tag_at, shown_levels}
-use Rattle.map_model.specs.Reading.{◌>>=◌, Stop, Read, want, or_stop, fixed_number, times, each, where_set}
+use Rattle.map_model.specs.Reader.{Stop, Read, want, or_stop, with_rest, fixed_number, times, each, where_set}
+use Rattle.mf_base.specs.Steps.{◌>>=◌}
 
 -- why a field of a tile has no spelling
 pub data TileKind : Type 0 where
@@ -36,10 +38,10 @@ pub record TileFault : Type 0 where
 -- ---- numbers, texts, places
 
 unfoldable pub number : List ℕ → Read TileKind ℕ
-number bytes = or_stop vbe bytes (unsigned_at bytes)
+number bytes = or_stop vbe bytes (with_rest bytes (unsigned_front bytes))
 
 unfoldable pub signed : List ℕ → Read TileKind ℤ
-signed bytes = or_stop vbe bytes (signed_at bytes)
+signed bytes = or_stop vbe bytes (with_rest bytes (signed_front bytes))
 
 -- a count of at least so many things
 unfoldable pub count_from : ℕ → List ℕ → Read TileKind ℕ
@@ -60,7 +62,7 @@ text_at bytes = do
 unfoldable pub ranged : ℤ → List ℕ → Read TileKind ℤ
 ranged base bytes = do
   d ← signed bytes
-  fits ← want (is_in_32 (base +ℤ d.0)) range bytes
+  fits ← want (is_signed_32 (base +ℤ d.0)) range bytes
   Ok (base +ℤ d.0, d.1)
 
 -- a place, told by how far it is from another
@@ -269,10 +271,6 @@ read_tile_from corner tags interval bytes = placed (length bytes) (shown_at tags
 unfoldable pub read_tile : TagLists → TilePlace → List ℕ → Result (List Listed) TileFault
 read_tile tags tile bytes = read_tile_from (tile_corner tile) tags tile.interval bytes
 
-abbrev pub fault_of : {X E : Type 0} → Result X E → Option E
-fault_of (Ok x) = None
-fault_of (Err e) = Some e
-
 -- the first field without a spelling
 unfoldable pub tile_fault : TagLists → TilePlace → List ℕ → Option TileFault
 tile_fault tags tile bytes = fault_of (read_tile tags tile bytes)
@@ -283,14 +281,14 @@ abbrev pub IsText : List ℕ → Type 0
 IsText bytes = (length bytes < 2 ^ 63) × IsTrue (is_utf8 bytes)
 
 abbrev pub IsInRange : Place → Type 0
-IsInRange p = IsTrue (is_in_32 p.lat) × IsTrue (is_in_32 p.lon)
+IsInRange p = IsTrue (is_signed_32 p.lat) × IsTrue (is_signed_32 p.lon)
 
 -- a value of a tag of this kind
 abbrev pub IsOfKind : ValueKind → KeptValue → Type 0
 IsOfKind ValueKind.none KeptValue.plain = ⊤
 IsOfKind ValueKind.byte (KeptValue.byte n) = IsTrue (lies_within (negsuc 127) (pos 127) n)
 IsOfKind ValueKind.short (KeptValue.short n) = IsTrue (lies_within (negsuc 32767) (pos 32767) n)
-IsOfKind ValueKind.int (KeptValue.int n) = IsTrue (is_in_32 n)
+IsOfKind ValueKind.int (KeptValue.int n) = IsTrue (is_signed_32 n)
 IsOfKind ValueKind.text (KeptValue.text bytes) = IsText bytes
 IsOfKind _ _ = ⊥
 
@@ -307,7 +305,7 @@ pub record IsPoi (tags : List (List ℕ)) (p : PoiFields) : Type 0 where
   pub other : p.other < 32
   pub name : IfSome p.name IsText
   pub house : IfSome p.house IsText
-  pub height : IfSome p.height (λ n. IsTrue (is_in_32 n))
+  pub height : IfSome p.height (λ n. IsTrue (is_signed_32 n))
 
 -- two places at least
 abbrev pub IsRing : List Place → Type 0

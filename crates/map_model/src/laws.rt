@@ -5,7 +5,7 @@ ghost use Rattle.byteorder.specs.Endian.{big_number};
 ghost use Rattle.mf_base.specs.declared.place.Rect.{Rect};
 ghost use Rattle.mf_base.specs.declared.tile.TilePlace.{TilePlace};
 ghost use Rattle.feature_model.specs.Features.{Feature};
-ghost use Rattle.map_model.specs.Mercator.{IsRoot, isqrt, edge_lat, fine_row, IsFineRow};
+ghost use Rattle.map_model.specs.Mercator.{edge_lat, fine_row, IsFineRow};
 ghost use Rattle.map_model.specs.Tiles.{in_order, members};
 ghost use Rattle.map_model.specs.Layout.{levels_bytes};
 ghost use Rattle.map_model.specs.TileBytes.{tile_corner, tile_bytes, written_levels};
@@ -15,13 +15,6 @@ ghost use Rattle.std.specs.List.{AllByRecursion};
 ghost use Rattle.map_model.specs.SubFile.{Piece, entry_bytes, index_bytes, sub_file_of, sub_file_size};
 ghost use Rattle.map_model.specs.Header.{HeadSettings, SubFile, header_size, header_bytes};
 ghost use Rattle.map_model.specs.Listing.{entry_of};
-
-/// Each number has one root, and it is `isqrt`.
-#[tactic(auto, using(crate::proofs::MercatorLemmas::root_laws))]
-pub fn one_root()
-    ensures root { (v : ℕ) → IsRoot v (isqrt v) }
-    ensures only { (v r s : ℕ) → IsRoot v r → IsRoot v s → r ≡ s }
-{}
 
 /// The edges of the rows never rise, so a row is found between two of them.
 #[tactic(auto, using(crate::proofs::MercatorLemmas::row_laws))]

@@ -3,8 +3,8 @@ use Rattle.std.proofs.Common.{◌≡◌, ◌⊎◌, ℕ, zero, suc, ◌+◌, ◌
 use Rattle.std.proofs.lemmas.Bool.{cases_lt, lt-ltb, le-ltb}
 use Rattle.std.proofs.lemmas.List.{nil_from_length, take_at, length-take, get_or-take, get_or_past}
 use Rattle.std.proofs.Math.Nat.{pow-suc}
-use Rattle.mf_base.specs.Spelling.{VbeU, vbe_u, high_run, sevens, first_run}
-use Rattle.mf_base.proofs.Vbe.{vbe_u-only, length-vbe_u-le}
+use Rattle.mf_base.specs.Spelling.{IsVbeUnsigned, vbe_unsigned, high_run, sevens, first_run}
+use Rattle.mf_base.proofs.Vbe.{vbe_unsigned-only, length-vbe_unsigned-le}
 
 pub high_run-low : (b : ℕ) (c : List ℕ) → b < 128 → high_run (b ∷ c) ≡ 0
 high_run-low b c low = rw (lt-ltb b 128 low) refl
@@ -61,7 +61,7 @@ pub record IsShortest (bytes : List ℕ) : Type 0 where
   pub run : length bytes ≡ suc (high_run bytes)
   pub last : (high_run bytes ≡ 0) ⊎ (0 < get_or bytes (high_run bytes) 0)
 
-pub spells : (bytes : List ℕ) → ((i : ℕ) → get_or bytes i 0 < 256) → IsShortest bytes → VbeU (sevens bytes) bytes
+pub spells : (bytes : List ℕ) → ((i : ℕ) → get_or bytes i 0 < 256) → IsShortest bytes → IsVbeUnsigned (sevens bytes) bytes
 spells [] small h = absurd (let e = h.run in omega (arith, e))
 spells (b ∷ c) small h =
     elim (cases_lt b 128) [
@@ -74,7 +74,7 @@ spells (b ∷ c) small h =
           let run : length c ≡ suc (high_run c) = omega (arith, e, h.run) in
           let last : 0 < get_or c (high_run c) 0 = elim h.last [ inl zero_run ↦ absurd (omega (arith, e, zero_run)) | inr above ↦ rw e at above ] in
           let above = sevens-positive c (high_run c) last (high_run-stop c (omega (arith, run))) in
-          let rest : VbeU (sevens c) c = spells c (λ i. small (suc i)) (record { run = run; last = inr last }) in
+          let rest : IsVbeUnsigned (sevens c) c = spells c (λ i. small (suc i)) (record { run = run; last = inr last }) in
           let high_part : (b % 128 + 128 * sevens c) / 128 ≡ sevens c = omega arith in
           inr (omega (arith, above), omega (arith, small 0, high), rw high_part rest)
     ]
@@ -95,7 +95,7 @@ small_take n bytes i small =
       | inr le ↦ rw (get_or_past (take n bytes) i 0 (omega (arith, length-take n bytes))) (omega arith)
     ]
 
-pub reads : (n : ℕ) (bytes : List ℕ) → VbeU n bytes → IsRead n bytes
+pub reads : (n : ℕ) (bytes : List ℕ) → IsVbeUnsigned n bytes → IsRead n bytes
 reads n [] h = absurd h
 reads n (b ∷ c) (inl h) =
     let low : b < 128 = omega (arith, h.0, h.1) in
@@ -142,11 +142,11 @@ pub get_or-first_run : (bytes : List ℕ) → get_or (first_run bytes) (high_run
 get_or-first_run bytes = get_or-take (suc (high_run bytes)) bytes (high_run bytes) 0 (omega arith)
 
 -- bytes that begin with a spelling
-pub first_run-read : (n : ℕ) (bytes rest : List ℕ) → VbeU n bytes → (first_run (bytes ++ rest) ≡ bytes) × (high_run (bytes ++ rest) ≡ high_run bytes)
+pub first_run-read : (n : ℕ) (bytes rest : List ℕ) → IsVbeUnsigned n bytes → (first_run (bytes ++ rest) ≡ bytes) × (high_run (bytes ++ rest) ≡ high_run bytes)
 first_run-read n bytes rest h = let r = reads n bytes h in (first_run-append bytes rest r.shortest.run, high_run-append bytes rest r.shortest.run)
 
 -- bytes whose first run is shortest begin with a spelling of its number
-pub first_run-spells : (bytes : List ℕ) → ((i : ℕ) → get_or bytes i 0 < 256) → high_run bytes < length bytes → (high_run bytes ≡ 0) ⊎ (0 < get_or bytes (high_run bytes) 0) → VbeU (sevens (first_run bytes)) (first_run bytes)
+pub first_run-spells : (bytes : List ℕ) → ((i : ℕ) → get_or bytes i 0 < 256) → high_run bytes < length bytes → (high_run bytes ≡ 0) ⊎ (0 < get_or bytes (high_run bytes) 0) → IsVbeUnsigned (sevens (first_run bytes)) (first_run bytes)
 first_run-spells bytes small lt last =
     let run = high_run-first_run bytes lt in
     spells (first_run bytes) (λ i. small_take (suc (high_run bytes)) bytes i small)
@@ -161,20 +161,20 @@ sevens-zero_end (b ∷ c) h =
       | inr high ↦ let e = high_run-high b c high in let rest = sevens-zero_end c (rw e at h) in rw (e, rest) refl
     ]
 
-length-vbe_u-below : (k n : ℕ) → 0 < k → n < 128 ^ k → length (vbe_u n) ≤ k
-length-vbe_u-below zero n above fits = absurd (omega arith)
-length-vbe_u-below (suc k) n above fits = length-vbe_u-le k n fits
+length-vbe_unsigned-below : (k n : ℕ) → 0 < k → n < 128 ^ k → length (vbe_unsigned n) ≤ k
+length-vbe_unsigned-below zero n above fits = absurd (omega arith)
+length-vbe_unsigned-below (suc k) n above fits = length-vbe_unsigned-le k n fits
 
 -- the number of a run is spelled shorter exactly where its last byte is 0 behind others
-pub shorter : (bytes : List ℕ) → high_run bytes < length bytes → 0 < high_run bytes → get_or bytes (high_run bytes) 0 ≡ 0 → length (vbe_u (sevens (first_run bytes))) < suc (high_run bytes)
+pub shorter : (bytes : List ℕ) → high_run bytes < length bytes → 0 < high_run bytes → get_or bytes (high_run bytes) 0 ≡ 0 → length (vbe_unsigned (sevens (first_run bytes))) < suc (high_run bytes)
 shorter bytes lt above zero_end =
     let len : length (take (high_run bytes) bytes) ≡ high_run bytes = omega (arith, length-take (high_run bytes) bytes) in
     let lower = rw len at (sevens-lt (take (high_run bytes) bytes)) in
     let same = sevens-zero_end bytes zero_end in
-    let few = length-vbe_u-below (high_run bytes) (sevens (first_run bytes)) above (rw same lower) in
+    let few = length-vbe_unsigned-below (high_run bytes) (sevens (first_run bytes)) above (rw same lower) in
     omega (arith, few)
 
-pub not_shorter : (bytes : List ℕ) → ((i : ℕ) → get_or bytes i 0 < 256) → high_run bytes < length bytes → (high_run bytes ≡ 0) ⊎ (0 < get_or bytes (high_run bytes) 0) → length (vbe_u (sevens (first_run bytes))) ≡ suc (high_run bytes)
+pub not_shorter : (bytes : List ℕ) → ((i : ℕ) → get_or bytes i 0 < 256) → high_run bytes < length bytes → (high_run bytes ≡ 0) ⊎ (0 < get_or bytes (high_run bytes) 0) → length (vbe_unsigned (sevens (first_run bytes))) ≡ suc (high_run bytes)
 not_shorter bytes small lt last =
-    let e = vbe_u-only (sevens (first_run bytes)) (first_run bytes) (first_run-spells bytes small lt last) in
+    let e = vbe_unsigned-only (sevens (first_run bytes)) (first_run bytes) (first_run-spells bytes small lt last) in
     sym (ap length e) ∙ length-first_run bytes lt

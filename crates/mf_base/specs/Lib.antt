@@ -1,3 +1,5 @@
+pub mod Steps
+pub mod Ranges
 pub mod Spelling
 pub mod NumberReading
 pub mod Texts

@@ -8,4 +8,5 @@ pub mod kind;
 pub mod laws;
 pub mod number;
 pub mod place;
+pub mod rows;
 pub mod tile;

@@ -3,13 +3,14 @@ use Rattle.std.proofs.Common.{◌≡◌, ◌==◌, ◌&&◌, ℕ, ◌+◌, ◌*�
 use Rattle.std.proofs.lemmas.Bool.{lt-ltb, le-leb, leb-true, eqb-true, ltb-true, and_parts}
 use Rattle.std.proofs.lemmas.List.{take_at, drop_at, length-drop, length-append, append_assoc, length-take-le, take-append-drop}
 use Rattle.std.proofs.Math.Seq.{take-append-add}
-use Rattle.mf_base.specs.Spelling.{Varint}
-use Rattle.osm_model.specs.Reading.{◌>>=◌, told_as}
-use Rattle.osm_model.specs.Wire.{Value, varint, i64, len, i32, Field, wire_type, key_of, SpellsValue, SpellsField, varint_front, varint_fault, number_front, bytes_front, varint_value, len_value, value_front, field_front}
-use Rattle.osm_model.proofs.Steps.{chosen, ok_is, err_is_no_ok, bind_ok, require_ok, told_ok}
-use Rattle.osm_model.proofs.VarintLaws.{varint_reads, varint_found, IsFront}
+use Rattle.mf_base.specs.Spelling.{IsVarint}
+use Rattle.mf_base.specs.Steps.{◌>>=◌, told_as}
+use Rattle.mf_base.specs.NumberReading.{varint_front}
+use Rattle.osm_model.specs.Wire.{Value, varint, i64, len, i32, Field, wire_type, key_of, SpellsValue, SpellsField, varint_fault, number_front, bytes_front, varint_value, len_value, value_front, field_front}
+use Rattle.mf_base.proofs.StepLaws.{chosen, ok_is, err_is_no_ok, bind_ok, require_ok, told_ok}
+use Rattle.mf_base.proofs.NumberLemmas.{varint_reads, varint_found, IsFront}
 
-number_reads : (n : ℕ) (b rest : List ℕ) → Varint n b → number_front (b ++ rest) ≡ Ok (n, length b)
+number_reads : (n : ℕ) (b rest : List ℕ) → IsVarint n b → number_front (b ++ rest) ≡ Ok (n, length b)
 number_reads n b rest v = ap (told_as (λ fault. varint_fault)) (varint_reads n b rest v)
 
 bytes_read : (kind : List ℕ → Value) (count at : ℕ) (bytes : List ℕ) → at + count ≤ length bytes → bytes_front kind count at bytes ≡ Ok (kind (take count (drop at bytes)), at + count)
@@ -114,7 +115,7 @@ len_value_found type bytes v size typed e =
     let (fits, value, count) = bytes_found len n.0 n.1 bytes v size rest in
     let front = number_found bytes n.0 n.1 number in
     let held : length (take n.0 (drop n.1 bytes)) ≡ n.0 = length-take-le n.0 (drop n.1 bytes) (omega (arith, fits, length-drop n.1 bytes)) in
-    let spelled : Varint (length (take n.0 (drop n.1 bytes))) (take n.1 bytes) = subst (λ k. Varint k (take n.1 bytes)) (sym held) front.spelled in
+    let spelled : IsVarint (length (take n.0 (drop n.1 bytes))) (take n.1 bytes) = subst (λ k. IsVarint k (take n.1 bytes)) (sym held) front.spelled in
     subst (λ w. IsValueFront type w size bytes) value (subst (λ k. IsValueFront type (len (take n.0 (drop n.1 bytes))) k bytes) count
     (record { typed = typed; within = fits; spelled = (take n.1 bytes, spelled, split_take n.1 n.0 bytes fits) }))
 
@@ -153,7 +154,7 @@ field_found bytes f size e =
     let left = length-drop key.1 bytes in
     let fits : key.1 + value.1 ≤ length bytes = omega (arith, front.within, held.within, left) in
     let whole : 8 * (key.0 / 8) + wire_type value.0 ≡ key.0 = omega (arith, held.typed) in
-    let keyed : Varint (8 * (key.0 / 8) + wire_type value.0) (take key.1 bytes) = subst (λ k. Varint k (take key.1 bytes)) (sym whole) front.spelled in
+    let keyed : IsVarint (8 * (key.0 / 8) + wire_type value.0) (take key.1 bytes) = subst (λ k. IsVarint k (take key.1 bytes)) (sym whole) front.spelled in
     let found : IsFieldFront (record { number = key.0 / 8; value = value.0 }) (key.1 + value.1) bytes = record {
       some = positive_sum key.1 value.1 front.some;
       within = fits;

@@ -6,14 +6,15 @@ use Rattle.std.proofs.lemmas.List.{take_at, drop_at, length-take, length-drop, l
 use Rattle.byteorder.specs.Endian.{big_number, big_bytes}
 use Rattle.std.specs.Cmp.Lexicographic.{bytes_decides}
 use Rattle.byteorder.specs.Numbers.{big_number-reads_back, length-bytes_high_first}
-use Rattle.mf_base.specs.Spelling.{be}
-use Rattle.osm_model.specs.Reading.{◌>>=◌}
+use Rattle.mf_base.specs.Spelling.{big_endian}
+use Rattle.mf_base.specs.Steps.{◌>>=◌}
 use Rattle.osm_model.specs.Wire.{Field, IsMessage}
 use Rattle.osm_model.specs.Tables.{FitsTable, message, blob_header, blob, once_of, number_of}
-use Rattle.osm_model.specs.Frames.{IsBytes, Content, header, primitive, unread, type_of, header_limit, blob_limit, offset_limit, IsBlobHeader, IsBlob, HoldsContent, SpellsFrame, header_wire, blob_wire, no_type, no_size, compressed, no_data, raw_size, whole_part, raw_size_fault, raw_bytes, content_in, frame_front}
-use Rattle.osm_model.proofs.Steps.{chosen, ok_is, bind_ok, require_ok, told_ok, ok_or_ok, refuse_ok}
+use Rattle.mf_base.specs.Spelling.{IsBytes}
+use Rattle.osm_model.specs.Frames.{Content, header, primitive, unread, type_of, header_limit, blob_limit, offset_limit, IsBlobHeader, IsBlob, HoldsContent, SpellsFrame, header_wire, blob_wire, no_type, no_size, compressed, no_data, raw_size, whole_part, raw_size_fault, raw_bytes, content_in, frame_front}
+use Rattle.mf_base.proofs.StepLaws.{chosen, ok_is, bind_ok, require_ok, told_ok, ok_or_ok, refuse_ok}
 use Rattle.osm_model.proofs.FieldLaws.{split_take}
-use Rattle.osm_model.proofs.BigBytes.{big_bytes-big_number}
+use Rattle.mf_base.proofs.BigBytes.{big_bytes-big_number}
 use Rattle.osm_model.proofs.TableMessageLaws.{message_is, message_found}
 use Rattle.osm_model.proofs.TableLaws.{some_no_none, true_no_false}
 
@@ -95,28 +96,28 @@ content_found kind b c e =
           ]
     ]
 
-length-be : (n : ℕ) → length (be 4 n) ≡ 4
-unfolding be
-length-be n = length-bytes_high_first 4 n
+length-big_endian : (n : ℕ) → length (big_endian 4 n) ≡ 4
+unfolding big_endian
+length-big_endian n = length-bytes_high_first 4 n
 
-number-be : (n : ℕ) → n ≤ header_limit → big_number 4 (be 4 n) ≡ n
-unfolding be
-number-be n small = subst (λ b. big_number 4 b ≡ n) (append-nil (big_bytes 4 n)) (big_number-reads_back 4 n [] (omega (arith, small)))
+number-big_endian : (n : ℕ) → n ≤ header_limit → big_number 4 (big_endian 4 n) ≡ n
+unfolding big_endian
+number-big_endian n small = subst (λ b. big_number 4 b ≡ n) (append-nil (big_bytes 4 n)) (big_number-reads_back 4 n [] (omega (arith, small)))
 
 pub frame_reads : (at : ℕ) (c : Content) (b rest : List ℕ) → at < offset_limit → SpellsFrame c b → frame_front at (b ++ rest) ≡ Ok (c, length b)
 frame_reads at c b rest near h =
-    let four = length-be (length h.head) in
-    let parts : b ++ rest ≡ be 4 (length h.head) ++ (h.head ++ (h.body ++ rest)) =
-    ap (λ x. x ++ rest) h.whole ∙ append_assoc (be 4 (length h.head) ++ h.head) h.body rest ∙ append_assoc (be 4 (length h.head)) h.head (h.body ++ rest) in
-    let behind_size : drop 4 (b ++ rest) ≡ h.head ++ (h.body ++ rest) = ap (drop 4) parts ∙ drop_at (be 4 (length h.head)) _ 4 four in
-    let front : length (be 4 (length h.head) ++ h.head) ≡ 4 + length h.head = omega (arith, four, length-append (be 4 (length h.head)) h.head) in
-    let behind_head : drop (4 + length h.head) (b ++ rest) ≡ h.body ++ rest = ap (drop (4 + length h.head)) (ap (λ x. x ++ rest) h.whole ∙ append_assoc (be 4 (length h.head) ++ h.head) h.body rest) ∙ drop_at (be 4 (length h.head) ++ h.head) _ (4 + length h.head) front in
-    let sized = ap (whole_part 4) parts ∙ part-ok (be 4 (length h.head)) _ 4 four in
+    let four = length-big_endian (length h.head) in
+    let parts : b ++ rest ≡ big_endian 4 (length h.head) ++ (h.head ++ (h.body ++ rest)) =
+    ap (λ x. x ++ rest) h.whole ∙ append_assoc (big_endian 4 (length h.head) ++ h.head) h.body rest ∙ append_assoc (big_endian 4 (length h.head)) h.head (h.body ++ rest) in
+    let behind_size : drop 4 (b ++ rest) ≡ h.head ++ (h.body ++ rest) = ap (drop 4) parts ∙ drop_at (big_endian 4 (length h.head)) _ 4 four in
+    let front : length (big_endian 4 (length h.head) ++ h.head) ≡ 4 + length h.head = omega (arith, four, length-append (big_endian 4 (length h.head)) h.head) in
+    let behind_head : drop (4 + length h.head) (b ++ rest) ≡ h.body ++ rest = ap (drop (4 + length h.head)) (ap (λ x. x ++ rest) h.whole ∙ append_assoc (big_endian 4 (length h.head) ++ h.head) h.body rest) ∙ drop_at (big_endian 4 (length h.head) ++ h.head) _ (4 + length h.head) front in
+    let sized = ap (whole_part 4) parts ∙ part-ok (big_endian 4 (length h.head)) _ 4 four in
     let headed = ap (whole_part (length h.head)) behind_size ∙ part-ok h.head _ (length h.head) refl in
     let bodied = ap (whole_part (length h.body)) behind_head ∙ part-ok h.body rest (length h.body) refl in
     let holds = h.head_holds in
-    let count : length b ≡ 4 + length h.head + length h.body = ap length h.whole ∙ length-append (be 4 (length h.head) ++ h.head) h.body ∙ ap (λ n. n + length h.body) front in
-    frame-ok at (b ++ rest) (be 4 (length h.head)) h.head (length h.head) holds.parts (type_of c) (length h.body) h.body c near sized (number-be (length h.head) h.head_size) h.head_size headed
+    let count : length b ≡ 4 + length h.head + length h.body = ap length h.whole ∙ length-append (big_endian 4 (length h.head) ++ h.head) h.body ∙ ap (λ n. n + length h.body) front in
+    frame-ok at (b ++ rest) (big_endian 4 (length h.head)) h.head (length h.head) holds.parts (type_of c) (length h.body) h.body c near sized (number-big_endian (length h.head) h.head_size) h.head_size headed
     (message_is blob_header h.head holds.parts holds.spelled holds.fits) holds.named holds.sized h.body_size bodied (content_is c h.body h.body_holds)
     ∙ ap (λ n. Ok (c, n)) (sym count)
 
@@ -134,9 +135,9 @@ small_take n bytes small i =
       | inr le ↦ rw (get_or_past (take n bytes) i 0 (omega (arith, length-take n bytes, le))) (omega arith)
     ]
 
-be-number : (bytes : List ℕ) → IsBytes bytes → 4 ≤ length bytes → be 4 (big_number 4 (take 4 bytes)) ≡ take 4 bytes
-unfolding be
-be-number bytes small fits = big_bytes-big_number 4 (take 4 bytes) (small_take 4 bytes small) (omega (arith, length-take-le 4 bytes fits)) ∙ take-take 4 4 bytes (omega arith)
+big_endian-number : (bytes : List ℕ) → IsBytes bytes → 4 ≤ length bytes → big_endian 4 (big_number 4 (take 4 bytes)) ≡ take 4 bytes
+unfolding big_endian
+big_endian-number bytes small fits = big_bytes-big_number 4 (take 4 bytes) (small_take 4 bytes small) (omega (arith, length-take-le 4 bytes fits)) ∙ take-take 4 4 bytes (omega arith)
 
 positive : (n m : ℕ) → 0 < 4 + n + m
 positive n m = omega arith
@@ -149,12 +150,12 @@ fits_within bytes n m four first second =
     (fits_one, omega arith)
 
 -- the bytes of a length, a head and a body that were taken one after another
-parts_whole : (bytes four head body : List ℕ) (n m : ℕ) → IsBytes bytes → big_number 4 four ≡ n → 4 ≤ length bytes → take 4 bytes ≡ four → n ≤ length (drop 4 bytes) → take n (drop 4 bytes) ≡ head → m ≤ length (drop (4 + n) bytes) → take m (drop (4 + n) bytes) ≡ body → take (4 + n + m) bytes ≡ be 4 (length head) ++ head ++ body
+parts_whole : (bytes four head body : List ℕ) (n m : ℕ) → IsBytes bytes → big_number 4 four ≡ n → 4 ≤ length bytes → take 4 bytes ≡ four → n ≤ length (drop 4 bytes) → take n (drop 4 bytes) ≡ head → m ≤ length (drop (4 + n) bytes) → take m (drop (4 + n) bytes) ≡ body → take (4 + n + m) bytes ≡ big_endian 4 (length head) ++ head ++ body
 parts_whole bytes four head body n m small number fits first fits_head second fits_body third =
     let head_len : length head ≡ n = ap length (sym second) ∙ length-take-le n (drop 4 bytes) fits_head in
-    let four_is : be 4 n ≡ four = ap (be 4) (sym number) ∙ ap (λ x. be 4 (big_number 4 x)) (sym first) ∙ be-number bytes small fits ∙ first in
+    let four_is : big_endian 4 n ≡ four = ap (big_endian 4) (sym number) ∙ ap (λ x. big_endian 4 (big_number 4 x)) (sym first) ∙ big_endian-number bytes small fits ∙ first in
     let within = fits_within bytes n m fits fits_head fits_body in
-    let front : take (4 + n) bytes ≡ be 4 (length head) ++ head = split_take 4 n bytes within.0 ∙ ap (λ x. take 4 bytes ++ x) second ∙ ap (λ x. x ++ head) (first ∙ sym four_is ∙ ap (be 4) (sym head_len)) in
+    let front : take (4 + n) bytes ≡ big_endian 4 (length head) ++ head = split_take 4 n bytes within.0 ∙ ap (λ x. take 4 bytes ++ x) second ∙ ap (λ x. x ++ head) (first ∙ sym four_is ∙ ap (big_endian 4) (sym head_len)) in
     split_take (4 + n) m bytes within.1 ∙ ap (λ x. take (4 + n) bytes ++ x) third ∙ ap (λ x. x ++ body) front
 
 length_taken : (n : ℕ) (bytes p : List ℕ) → n ≤ length bytes → take n bytes ≡ p → length p ≡ n
@@ -199,5 +200,5 @@ frame_found at bytes c size small e =
 -- a blob takes at least four bytes
 pub some_bytes : (c : Content) (b : List ℕ) → SpellsFrame c b → 0 < length b
 some_bytes c b h =
-    let count : length b ≡ length (be 4 (length h.head) ++ h.head) + length h.body = ap length h.whole ∙ length-append (be 4 (length h.head) ++ h.head) h.body in
-    omega (arith, count, length-append (be 4 (length h.head)) h.head, length-be (length h.head))
+    let count : length b ≡ length (big_endian 4 (length h.head) ++ h.head) + length h.body = ap length h.whole ∙ length-append (big_endian 4 (length h.head) ++ h.head) h.body in
+    omega (arith, count, length-append (big_endian 4 (length h.head)) h.head, length-big_endian (length h.head))

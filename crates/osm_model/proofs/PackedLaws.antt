@@ -3,7 +3,7 @@ use Rattle.std.proofs.Common.{◌≡◌, ℕ, suc, ◌<◌, ◌≤◌, ◌^◌, 
 use Rattle.std.proofs.lemmas.Bool.{cases_lt, lt-ltb, le-ltb, le-leb, leb-true, eqb-true, eq-eqb, ltb-true, and_parts, and_from}
 use Rattle.std.proofs.lemmas.List.{nil_from_length}
 use Rattle.std.specs.List.{concat, list_all}
-use Rattle.mf_base.specs.Spelling.{Varint, high_run, sevens}
+use Rattle.mf_base.specs.Spelling.{IsVarint, high_run, sevens}
 use Rattle.mf_base.proofs.Runs.{high_run-low, high_run-high}
 use Rattle.osm_model.specs.Wire.{runs, before_first, is_varint, are_varints, packed_numbers, IsPacked}
 
@@ -31,11 +31,11 @@ runs-append (b ∷ c) rest run =
           runs-high b (c ++ rest) high ∙ ap (before_first b) (runs-append c rest (omega (arith, run, high_run-high b c high)))
     ]
 
-varint_is : (n : ℕ) (b : List ℕ) → Varint n b → is_varint b ≡ true
+varint_is : (n : ℕ) (b : List ℕ) → IsVarint n b → is_varint b ≡ true
 varint_is n b v =
     and_from _ _ (and_from _ _ (eq-eqb _ _ v.run) (le-leb _ _ v.short)) (lt-ltb _ _ (subst (λ k. k < 2 ^ 64) v.value v.fits))
 
-is_varint_spells : (b : List ℕ) → is_varint b ≡ true → Varint (sevens b) b
+is_varint_spells : (b : List ℕ) → is_varint b ≡ true → IsVarint (sevens b) b
 is_varint_spells b e =
     let parts = and_parts _ _ e in
     let first = and_parts _ _ parts.0 in

@@ -4,8 +4,9 @@ use Rattle.std.specs.List.{list_all}
 use Rattle.std.specs.Str.{is_utf8}
 use Rattle.mf_base.specs.declared.place.Place.{Place}
 use Rattle.mf_base.specs.declared.place.Rect.{Rect}
-use Rattle.osm_model.specs.Reading.{◌>>=◌, require, refuse, told_as}
-use Rattle.osm_model.specs.Wire.{Field, sint64, int64}
+use Rattle.mf_base.specs.Steps.{◌>>=◌, require, refuse, told_as}
+use Rattle.mf_base.specs.Spelling.{unzigzag_of}
+use Rattle.osm_model.specs.Wire.{Field, int64}
 use Rattle.osm_model.specs.Tables.{MessageFault, message, header_block, header_bbox, primitive_block, string_table, once_of, bytes_of, number_of}
 
 -- Why a HeaderBlock or the head of a PrimitiveBlock is refused.
@@ -68,7 +69,7 @@ are_sides left right top bottom =
 
 -- a side of a HeaderBBox
 abbrev pub side : ℕ → List Field → Result ℤ BlockFault
-side k sides = ok_or (option_map sint64 (number_of k sides)) bad_box
+side k sides = ok_or (option_map unzigzag_of (number_of k sides)) bad_box
 
 -- the box of a HeaderBBox, in microdegrees
 unfoldable pub box_in : List ℕ → Result Rect BlockFault
@@ -135,13 +136,13 @@ block_groups raw = do
   Ok (bytes_of 2 parts)
 
 -- What a PrimitiveBlock has besides its objects.
-pub record Block : Type 0 where
+pub record PrimitiveBlock : Type 0 where
   pub head : BlockHead
   pub strings : List (List ℕ)
   pub groups : List (List ℕ)
 
 -- a PrimitiveBlock, or its first fault before its groups
-unfoldable pub block : List ℕ → Result Block BlockFault
+unfoldable pub block : List ℕ → Result PrimitiveBlock BlockFault
 block raw = do
   strings ← block_strings raw
   head ← block_head raw

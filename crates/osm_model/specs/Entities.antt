@@ -1,390 +1,38 @@
--- The objects of a block: the OpenStreetMap wiki, "PBF Format", on PrimitiveGroup, Node, DenseNodes, Way and Relation.
-use Rattle.std.specs.Prelude.{◌<◌, ◌≤◌, ⊤, ℕ, zero, suc, ◌-◌, ◌^◌, Bool, true, ◌&&◌, ◌==◌, nat_lt, nat_le, if◌then◌else◌, List, [], ◌∷◌, length, map, zip, replicate, flat_map, filter_map, filter, slice_get, Option, Some, None, option_map, ok_or, Result, Ok, Err, ℤ, pos, negsuc, ◌+ℤ◌, int_le, int_lt, nat_abs}
-use Rattle.std.specs.List.{list_all, AllByRecursion}
+-- The entities of an extract: the OpenStreetMap wiki, "PBF Format", on nodes, ways and relations.
+use Rattle.std.specs.Prelude.{ℕ, ℤ, List, Option, Some, None, filter_map}
 use Rattle.mf_base.specs.declared.place.Place.{Place}
 use Rattle.mf_base.specs.declared.kind.EntityKind.{EntityKind}
 use Rattle.mf_base.specs.declared.kind.EntityKind.TheVariants as kinds
-use Rattle.osm_model.specs.Reading.{Reading, all_read, stops_at, then_reads, ◌>>=◌, require, refuse, told_as, each, answer_of}
-use Rattle.osm_model.specs.Wire.{Field, sint64, int64}
-use Rattle.osm_model.specs.Tables.{MessageFault, message, primitive_group, node_table, dense_nodes, way_table, relation_table, counted_bytes, number_of, packed_of, signed_of}
-use Rattle.osm_model.specs.Blocks.{BlockHead, Block, is_coordinate, place_of}
-
--- A tag: its key and its value, as bytes of UTF-8.
-abbrev pub Tag : Type 0
-Tag = List ℕ × List ℕ
+use Rattle.mf_base.specs.Texts.{Text}
+use Rattle.mf_base.specs.Tags.{Tags}
 
 -- A member of a relation, with the id as it is written.
 pub record Member : Type 0 where
   pub kind : EntityKind
   pub id : ℤ
-  pub role : List ℕ
+  pub role : Text
 
 pub record Node : Type 0 where
   pub id : ℕ
   pub place : Place
-  pub tags : List Tag
+  pub tags : Tags
 
 -- A way, with its refs as they are written.
 pub record Way : Type 0 where
   pub id : ℕ
   pub refs : List ℤ
-  pub tags : List Tag
+  pub tags : Tags
 
 pub record Relation : Type 0 where
   pub id : ℕ
   pub members : List Member
-  pub tags : List Tag
+  pub tags : Tags
 
 -- An object of the input.
 pub data Entity : Type 0 where
   node : Node → Entity
   way : Way → Entity
   relation : Relation → Entity
-
--- Why an object is refused, or the group or the nodes it stands in.
-pub data EntityFault : Type 0 where
-  wire : MessageFault → EntityFault
-  -- two kinds of objects in one group
-  mixed_group : EntityFault
-  -- lists that belong together differ in number
-  columns : EntityFault
-  -- no id, latitude or longitude
-  missing : EntityFault
-  -- a sum of deltas, or a delta, is outside signed 64 bits
-  range : EntityFault
-  -- a node behind a way or relation, or a way behind a relation
-  kind_order : EntityFault
-  -- the id, told second, is not above the last of its kind
-  out_of_order : ℕ → ℤ → EntityFault
-  -- a latitude beyond 90 or a longitude beyond 180 degrees
-  coordinate : EntityFault
-  key_without_value : EntityFault
-  -- an index not below the number of strings
-  string_index : EntityFault
-  -- a member that is neither node, way nor relation
-  member_kind : EntityFault
-
--- An object before its place in the order is looked at: its kind and id, and what it is or its first fault behind the id.
-pub record Object : Type 0 where
-  pub kind : EntityKind
-  pub id : ℤ
-  pub entity : Result Entity EntityFault
-
--- ---- strings and tags
-
--- the string with this index
-abbrev pub string_at : List (List ℕ) → ℕ → Result (List ℕ) EntityFault
-string_at strings k = ok_or (slice_get strings k) string_index
-
--- the tag of a key's and a value's index
-abbrev pub tag_at : List (List ℕ) → ℕ × ℕ → Result Tag EntityFault
-tag_at strings pair = do
-  key ← string_at strings pair.0
-  value ← string_at strings pair.1
-  Ok (key, value)
-
--- the tags of a list of keys and a list of values
-unfoldable pub tags_of : List (List ℕ) → List ℕ → List ℕ → Result (List Tag) EntityFault
-tags_of strings keys vals = do
-  _ ← require (length keys == length vals) key_without_value
-  each (tag_at strings) (zip keys vals)
-
--- ---- numbers that are told as differences
-
--- a number of signed 64 bits
-abbrev pub is_signed64 : ℤ → Bool
-is_signed64 z = int_le (negsuc (2 ^ 63 - 1)) z && int_lt z (pos (2 ^ 63))
-
--- the sum of signed numbers
-abbrev pub int_sum : List ℤ → ℤ
-int_sum [] = pos 0
-int_sum (z ∷ zs) = z +ℤ int_sum zs
-
--- the numbers of a delta column: each is the sum of the differences up to it
-unfoldable pub column : List ℤ → List ℤ
-column [] = []
-column (d ∷ ds) = d ∷ map (λ sum. d +ℤ sum) (column ds)
-
--- the numbers of a delta column behind numbers of this sum
-abbrev pub column_from : ℤ → List ℤ → List ℤ
-column_from base ds = map (λ sum. base +ℤ sum) (column ds)
-
--- ---- plain nodes
-
--- the node of an id, a stored latitude and longitude and its tags
-abbrev pub node_of : BlockHead → ℤ → ℤ → ℤ → Result (List Tag) EntityFault → Result Entity EntityFault
-node_of head id lat lon told = do
-  _ ← require (is_coordinate head lat lon) coordinate
-  tags ← told
-  Ok (node (record { id = nat_abs id; place = place_of head lat lon; tags = tags }))
-
--- a signed number that must be there
-abbrev pub signed : ℕ → List Field → Result ℤ EntityFault
-signed k parts = ok_or (option_map sint64 (number_of k parts)) missing
-
--- the object of a Node message, or its first fault up to the id
-unfoldable pub node_object : Block → List ℕ → Result Object EntityFault
-node_object in_block bytes = do
-  parts ← told_as wire (message node_table bytes)
-  id ← signed 1 parts
-  lat ← signed 8 parts
-  lon ← signed 9 parts
-  Ok (record { kind = kinds.Node; id = id; entity = node_of in_block.head id lat lon (tags_of in_block.strings (packed_of 2 parts) (packed_of 3 parts)) })
-
--- ---- dense nodes
-
--- How a run of keys and values ends: by a 0 in the place of a key, behind a key, or with the list.
-pub data RunEnd : Type 0 where
-  by_zero : RunEnd
-  behind_key : ℕ → RunEnd
-  with_list : RunEnd
-
--- The keys and values of one dense node.
-pub record TagRun : Type 0 where
-  pub pairs : List (ℕ × ℕ)
-  pub ends : RunEnd
-
--- no pairs up to an end
-abbrev pub empty_run : RunEnd → TagRun
-empty_run ends = record { pairs = []; ends = ends }
-
--- a pair before the first of the runs
-abbrev pub before_run : ℕ × ℕ → List TagRun → List TagRun
-before_run pair [] = record { pairs = pair ∷ []; ends = with_list } ∷ []
-before_run pair (run ∷ runs) = record { pairs = pair ∷ run.pairs; ends = run.ends } ∷ runs
-
--- keys_vals, cut behind each 0 in the place of a key
-unfoldable pub tag_runs : List ℕ → List TagRun
-tag_runs [] = []
-tag_runs (zero ∷ rest) = empty_run by_zero ∷ tag_runs rest
-tag_runs (suc k ∷ []) = empty_run (behind_key (suc k)) ∷ []
-tag_runs (suc k ∷ v ∷ rest) = before_run (suc k, v) (tag_runs rest)
-
--- pairs as they stand in keys_vals
-abbrev pub pairs_spelled : List (ℕ × ℕ) → List ℕ
-pairs_spelled pairs = flat_map (λ pair. pair.0 ∷ pair.1 ∷ []) pairs
-
--- no key is 0
-abbrev pub HasKeys : List (ℕ × ℕ) → Type 0
-HasKeys pairs = AllByRecursion (λ (pair : ℕ × ℕ). 0 < pair.0) pairs
-
--- what a run's end tells, behind the tags of its pairs
-abbrev pub end_of_run : List (List ℕ) → RunEnd → List Tag → Result (List Tag) EntityFault
-end_of_run strings by_zero tags = Ok tags
-end_of_run strings (behind_key k) tags = string_at strings k >>= λ key. Err key_without_value
-end_of_run strings with_list tags = Err columns
-
--- the tags of a run
-unfoldable pub run_tags : List (List ℕ) → TagRun → Result (List Tag) EntityFault
-run_tags strings run = do
-  tags ← each (tag_at strings) run.pairs
-  end_of_run strings run.ends tags
-
--- the runs of so many dense nodes: no node of an empty keys_vals has tags
-abbrev pub runs_of : ℕ → List ℕ → List TagRun
-runs_of count [] = replicate count (empty_run by_zero)
-runs_of count (k ∷ rest) = tag_runs (k ∷ rest)
-
--- a dense node of an id, a latitude and a longitude, which are sums of differences
-abbrev pub dense_node : Block → ℤ × ℤ × ℤ → TagRun → Result Object EntityFault
-dense_node in_block (id, lat, lon) run = do
-  _ ← require (is_signed64 id && is_signed64 lat && is_signed64 lon) range
-  Ok (record { kind = kinds.Node; id = id; entity = node_of in_block.head id lat lon (run_tags in_block.strings run) })
-
--- each node with its run; a node without one has none of the list, and a run without a node is left over
-unfoldable pub with_runs : Block → List (ℤ × ℤ × ℤ) → List TagRun → List (Result Object EntityFault)
-with_runs in_block [] [] = []
-with_runs in_block [] (run ∷ runs) = Err columns ∷ []
-with_runs in_block (n ∷ ns) [] = dense_node in_block n (empty_run with_list) ∷ with_runs in_block ns []
-with_runs in_block (n ∷ ns) (run ∷ runs) = dense_node in_block n run ∷ with_runs in_block ns runs
-
--- three lists side by side
-abbrev pub zip_three : {A B C : Type 0} → List A → List B → List C → List (A × B × C)
-zip_three [] ys zs = []
-zip_three (x ∷ xs) [] zs = []
-zip_three (x ∷ xs) (y ∷ ys) [] = []
-zip_three (x ∷ xs) (y ∷ ys) (z ∷ zs) = (x, y, z) ∷ zip_three xs ys zs
-
--- the nodes of three columns of numbers
-unfoldable pub dense_columns : Block → List ℤ → List ℤ → List ℤ → List ℕ → List (Result Object EntityFault)
-dense_columns in_block ids lats lons keys_vals =
-    if (length ids == length lats) && (length ids == length lons)
-    then with_runs in_block (zip_three (column ids) (column lats) (column lons)) (runs_of (length ids) keys_vals)
-    else Err columns ∷ []
-
--- the objects of a DenseNodes message
-unfoldable pub dense_objects : Block → List ℕ → List (Result Object EntityFault)
-dense_objects in_block bytes =
-    elim (message dense_nodes bytes) [
-      | Ok parts ↦ dense_columns in_block (signed_of 1 parts) (signed_of 8 parts) (signed_of 9 parts) (packed_of 10 parts)
-      | Err fault ↦ Err (wire fault) ∷ []
-    ]
-
--- ---- ways
-
--- the way of an id, its refs and its tags
-abbrev pub way_of : ℤ → List ℤ → Result (List Tag) EntityFault → Result Entity EntityFault
-way_of id refs told = do
-  tags ← told
-  _ ← require (list_all is_signed64 refs) range
-  Ok (way (record { id = nat_abs id; refs = refs; tags = tags }))
-
--- the id of a way or a relation
-abbrev pub int64_id : List Field → Result ℤ EntityFault
-int64_id parts = ok_or (option_map int64 (number_of 1 parts)) missing
-
--- the object of a Way message, or its first fault up to the id
-unfoldable pub way_object : Block → List ℕ → Result Object EntityFault
-way_object in_block bytes = do
-  parts ← told_as wire (message way_table bytes)
-  id ← int64_id parts
-  Ok (record { kind = kinds.Way; id = id; entity = way_of id (column (signed_of 8 parts)) (tags_of in_block.strings (packed_of 2 parts) (packed_of 3 parts)) })
-
--- ---- relations
-
--- the kind of a member: 0 node, 1 way, 2 relation
-abbrev pub kind_at : ℕ → Result EntityKind EntityFault
-kind_at zero = Ok kinds.Node
-kind_at (suc zero) = Ok kinds.Way
-kind_at (suc (suc zero)) = Ok kinds.Relation
-kind_at (suc (suc (suc k))) = Err member_kind
-
--- the member of a role's index, an id, which is a sum of differences, and a type
-abbrev pub member_at : List (List ℕ) → ℕ × ℤ × ℕ → Result Member EntityFault
-member_at strings (role_index, id, type) = do
-  role ← string_at strings role_index
-  _ ← require (is_signed64 id) range
-  kind ← kind_at type
-  Ok (record { kind = kind; id = id; role = role })
-
--- the members of three columns
-abbrev pub members_of : List (List ℕ) → List ℕ → List ℤ → List ℕ → Result (List Member) EntityFault
-members_of strings roles ids types = do
-  _ ← require ((length roles == length ids) && (length roles == length types)) columns
-  each (member_at strings) (zip_three roles (column ids) types)
-
--- the relation of an id, its members and its tags
-abbrev pub relation_of : ℤ → Result (List Member) EntityFault → Result (List Tag) EntityFault → Result Entity EntityFault
-relation_of id told_members told_tags = do
-  tags ← told_tags
-  members ← told_members
-  Ok (relation (record { id = nat_abs id; members = members; tags = tags }))
-
--- the object of a Relation message, or its first fault up to the id
-unfoldable pub relation_object : Block → List ℕ → Result Object EntityFault
-relation_object in_block bytes = do
-  parts ← told_as wire (message relation_table bytes)
-  id ← int64_id parts
-  Ok (record { kind = kinds.Relation; id = id; entity = relation_of id (members_of in_block.strings (packed_of 8 parts) (signed_of 9 parts) (packed_of 10 parts)) (tags_of in_block.strings (packed_of 2 parts) (packed_of 3 parts)) })
-
--- ---- groups
-
--- the objects of a group's field with this number and these bytes; changesets are passed over
-abbrev pub objects_at : Block → ℕ → List ℕ → List (Result Object EntityFault)
-objects_at in_block k bytes =
-    if k == 1 then node_object in_block bytes ∷ []
-    else (if k == 2 then dense_objects in_block bytes
-    else (if k == 3 then way_object in_block bytes ∷ []
-    else (if k == 4 then relation_object in_block bytes ∷ []
-    else [])))
-
--- the objects of a group's field
-abbrev pub field_objects : Block → Field → List (Result Object EntityFault)
-field_objects in_block f = elim (counted_bytes f.value) [ None ↦ [] | Some bytes ↦ objects_at in_block f.number bytes ]
-
--- the numbers are one number, however often
-abbrev pub are_one : List ℕ → Bool
-are_one [] = true
-are_one (k ∷ ks) = list_all (λ j. j == k) ks
-
--- the kinds of objects that a group has, each as often as it has objects or lists of them
-abbrev pub kinds_in : List Field → List ℕ
-kinds_in parts = filter (λ k. nat_le 1 k && nat_le k 5) (map (λ (f : Field). f.number) parts)
-
--- the fields of a group, or its first fault
-abbrev pub group_fields : List ℕ → Result (List Field) EntityFault
-group_fields bytes = do
-  parts ← told_as wire (message primitive_group bytes)
-  _ ← require (are_one (kinds_in parts)) mixed_group
-  Ok parts
-
--- the objects of a group, in the order of the bytes
-unfoldable pub group_objects : Block → List ℕ → List (Result Object EntityFault)
-group_objects in_block bytes =
-    elim (group_fields bytes) [
-      | Ok parts ↦ flat_map (field_objects in_block) parts
-      | Err fault ↦ Err fault ∷ []
-    ]
-
--- The objects of a block, in the order of the bytes, each or its fault before its place in the order is looked at.
-unfoldable pub block_objects : Block → List (Result Object EntityFault)
-block_objects in_block = flat_map (group_objects in_block) in_block.groups
-
--- ---- their order
-
--- The last kind and the last id of each kind, of the objects so far.
-pub record Order : Type 0 where
-  pub kind : EntityKind
-  pub node_id : ℕ
-  pub way_id : ℕ
-  pub relation_id : ℕ
-
--- before the first object
-abbrev pub no_order : Order
-no_order = record { kind = kinds.Node; node_id = 0; way_id = 0; relation_id = 0 }
-
--- the order of kinds
-abbrev pub rank : EntityKind → ℕ
-rank kinds.Node = 0
-rank kinds.Way = 1
-rank kinds.Relation = 2
-
--- the last id of a kind
-abbrev pub last_id : Order → EntityKind → ℕ
-last_id order kinds.Node = order.node_id
-last_id order kinds.Way = order.way_id
-last_id order kinds.Relation = order.relation_id
-
--- the order behind one more object
-abbrev pub with_entity : Order → Entity → Order
-with_entity order (node n) = record order { kind = kinds.Node; node_id = n.id }
-with_entity order (way w) = record order { kind = kinds.Way; way_id = w.id }
-with_entity order (relation r) = record order { kind = kinds.Relation; relation_id = r.id }
-
--- the order behind these objects
-unfoldable pub order_behind : Order → List Entity → Order
-order_behind order [] = order
-order_behind order (e ∷ es) = order_behind (with_entity order e) es
-
--- the fault of an id of this kind behind the objects so far
-abbrev pub order_fault : Order → EntityKind → ℤ → Option EntityFault
-order_fault order kind id =
-    if nat_lt (rank kind) (rank order.kind) then Some kind_order
-    else (if int_le id (pos (last_id order kind)) then Some (out_of_order (last_id order kind) id) else None)
-
--- an object in its place, or its first fault
-abbrev pub placed : Order → Object → Result Entity EntityFault
-placed order object = do
-  _ ← refuse (order_fault order object.kind object.id)
-  object.entity
-
--- The objects in order, up to the first fault.
-unfoldable pub in_order : Order → List (Result Object EntityFault) → Reading Entity EntityFault
-in_order order [] = all_read
-in_order order (Err fault ∷ others) = stops_at fault
-in_order order (Ok object ∷ others) =
-    elim (placed order object) [
-      | Ok e ↦ then_reads e (in_order (with_entity order e) others)
-      | Err fault ↦ stops_at fault
-    ]
-
--- what an object is, whatever its place in the order, or None where it has a fault
-abbrev pub told_entity : Result Object EntityFault → Option Entity
-told_entity told = answer_of (told >>= λ (object : Object). object.entity)
-
--- the objects of a block, whatever their order
-unfoldable pub block_entities : Block → List Entity
-block_entities in_block = filter_map told_entity (block_objects in_block)
 
 -- the kind and the id of an object
 abbrev pub kind_of : Entity → EntityKind
@@ -396,11 +44,6 @@ abbrev pub id_of : Entity → ℕ
 id_of (node n) = n.id
 id_of (way w) = w.id
 id_of (relation r) = r.id
-
--- Behind objects of this order the kinds do not go back, and the ids of each kind rise.
-abbrev pub IsOrdered : Order → List Entity → Type 0
-IsOrdered order [] = ⊤
-IsOrdered order (e ∷ es) = (rank order.kind ≤ rank (kind_of e)) × (last_id order (kind_of e) < id_of e) × IsOrdered (with_entity order e) es
 
 abbrev pub as_node : Entity → Option Node
 as_node (node n) = Some n

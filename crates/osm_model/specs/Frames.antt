@@ -1,8 +1,9 @@
 -- The blobs of an extract: the OpenStreetMap wiki, "PBF Format", on its file format.
-use Rattle.std.specs.Prelude.{Bool, true, false, filter, Result, ◌≡◌, ◌≢◌, ℕ, zero, suc, ◌+◌, ◌-◌, ◌^◌, ◌≤◌, ◌<◌, ◌&&◌, ◌==◌, nat_lt, nat_le, if◌then◌else◌, List, [], ◌∷◌, ◌++◌, length, get_or, take, drop, map, find, Option, Some, None, option_map, ok_or, Ok, Err, codes, bytes_eq, MatchOption, ⊤}
+use Rattle.std.specs.Prelude.{Bool, true, false, filter, Result, ◌≡◌, ◌≢◌, ℕ, zero, suc, ◌+◌, ◌-◌, ◌^◌, ◌≤◌, ◌<◌, ◌&&◌, ◌==◌, nat_lt, nat_le, if◌then◌else◌, List, [], ◌∷◌, ◌++◌, length, take, drop, map, find, Option, Some, None, option_map, ok_or, Ok, Err, codes, bytes_eq, MatchOption, ⊤}
 use Rattle.byteorder.specs.Endian.{big_number}
-use Rattle.mf_base.specs.Spelling.{be}
-use Rattle.osm_model.specs.Reading.{Reading, all_read, stops_at, then_reads, ◌>>=◌, require, refuse, told_as}
+use Rattle.mf_base.specs.Spelling.{big_endian}
+use Rattle.mf_base.specs.Steps.{◌>>=◌, require, refuse, told_as}
+use Rattle.osm_model.specs.Reading.{Reading, all_read, stops_at, then_reads}
 use Rattle.osm_model.specs.Wire.{Field, IsMessage}
 use Rattle.osm_model.specs.Tables.{MessageFault, FitsTable, message, blob_header, blob, once_of, number_of}
 
@@ -64,7 +65,7 @@ HoldsContent (unread kind) b = (kind ≢ codes "OSMHeader") × (kind ≢ codes "
 pub record SpellsFrame (content : Content) (b : List ℕ) : Type 0 where
   pub head : List ℕ
   pub body : List ℕ
-  pub whole : b ≡ be 4 (length head) ++ head ++ body
+  pub whole : b ≡ big_endian 4 (length head) ++ head ++ body
   pub head_size : length head ≤ header_limit
   pub body_size : length body ≤ blob_limit
   pub head_holds : IsBlobHeader (type_of content) (length body) head
@@ -74,10 +75,6 @@ pub record SpellsFrame (content : Content) (b : List ℕ) : Type 0 where
 abbrev pub AreFrames : ℕ → List ℕ → List Frame → Type 0
 AreFrames at b [] = b ≡ []
 AreFrames at b (f ∷ fs) = (front : List ℕ) × (rest : List ℕ) × (f.at ≡ at) × (at < offset_limit) × SpellsFrame f.content front × AreFrames (at + length front) rest fs × (b ≡ front ++ rest)
-
--- each number is a byte
-abbrev pub IsBytes : List ℕ → Type 0
-IsBytes bytes = (i : ℕ) → get_or bytes i 0 < 256
 
 -- Why the bytes begin with no blob.
 pub data FrameFault : Type 0 where

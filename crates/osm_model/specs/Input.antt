@@ -2,10 +2,13 @@
 use Rattle.std.specs.Prelude.{◌≡◌, ◌≢◌, ℕ, true, List, [], ◌∷◌, ◌++◌, length, flat_map, filter_map, find, Option, Some, None, option_map, Result, Ok, Err, ⊤}
 use Rattle.std.specs.Option.{option_or}
 use Rattle.mf_base.specs.declared.place.Rect.{Rect}
-use Rattle.osm_model.specs.Reading.{Reading, all_read, stops_at, then_reads, fault_of}
+use Rattle.mf_base.specs.Steps.{fault_of}
+use Rattle.osm_model.specs.Reading.{Reading, all_read, stops_at, then_reads}
 use Rattle.osm_model.specs.Frames.{Content, header, primitive, unread, Frame, FrameFault, FrameFaultAt, AreFrames, frame_front, frames}
 use Rattle.osm_model.specs.Blocks.{BlockFault, header_box, block}
-use Rattle.osm_model.specs.Entities.{Entity, EntityFault, Order, no_order, order_behind, in_order, block_objects, block_entities}
+use Rattle.osm_model.specs.Entities.{Entity}
+use Rattle.osm_model.specs.Objects.{EntityFault, block_objects, block_entities}
+use Rattle.osm_model.specs.Order.{Order, no_order, order_behind, in_order}
 
 -- Why an input is refused.
 pub data InputCode : Type 0 where

@@ -5,7 +5,8 @@ use Rattle.mf_base.specs.declared.place.Rect.{Rect}
 use Rattle.mf_base.specs.declared.kind.EntityKind.TheVariants.{Node, Way, Relation}
 use Rattle.osm_model.specs.Frames.{FrameFault}
 use Rattle.osm_model.specs.Blocks.{BlockFault}
-use Rattle.osm_model.specs.Entities.{Entity, node, way, relation, EntityFault}
+use Rattle.osm_model.specs.Entities.{Entity, node, way, relation}
+use Rattle.osm_model.specs.Objects.{EntityFault}
 use Rattle.osm_model.specs.Input.{InputFault, of_frame, of_block, of_entity}
 
 -- the raw bytes of a header block with a box of one degree each way and the two required features

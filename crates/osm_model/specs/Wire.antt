@@ -1,9 +1,11 @@
 -- Varints, fields and messages: Protocol Buffers, "Encoding", on base 128 varints, message structure and packed fields.
-use Rattle.std.specs.Prelude.{◌≡◌, ℕ, zero, suc, ◌+◌, ◌-◌, ◌*◌, ◌/◌, ◌%◌, ◌^◌, ◌<◌, ◌≤◌, Bool, true, false, ◌&&◌, ◌==◌, nat_lt, nat_le, if◌then◌else◌, List, [], ◌∷◌, ◌++◌, length, take, drop, map, Option, Some, None, ◌≢◌, Result, Ok, Err, ℤ, pos, negsuc}
+use Rattle.std.specs.Prelude.{◌≡◌, ℕ, zero, suc, ◌+◌, ◌-◌, ◌*◌, ◌/◌, ◌%◌, ◌^◌, ◌<◌, ◌≤◌, Bool, true, false, ◌&&◌, ◌==◌, nat_lt, nat_le, if◌then◌else◌, List, [], ◌∷◌, ◌++◌, length, take, drop, map, Option, Some, None, ◌≢◌, Result, Ok, Err, ℤ}
 use Rattle.std.specs.List.{list_all}
 use Rattle.std.specs.Int.{w64, cast_signed}
-use Rattle.mf_base.specs.Spelling.{Varint, high_run, sevens, first_run}
-use Rattle.osm_model.specs.Reading.{Reading, all_read, stops_at, then_reads, ◌>>=◌, require, told_as}
+use Rattle.mf_base.specs.Spelling.{IsVarint, high_run, sevens}
+use Rattle.mf_base.specs.Steps.{◌>>=◌, require, told_as}
+use Rattle.mf_base.specs.NumberReading.{varint_front}
+use Rattle.osm_model.specs.Reading.{Reading, all_read, stops_at, then_reads}
 
 -- The value of a field, under the name of its wire type: VARINT 0, I64 1, LEN 2, I32 5.
 pub data Value : Type 0 where
@@ -29,16 +31,16 @@ key_of f = 8 * f.number + wire_type f.value
 
 -- The bytes spell the value: a varint, so many bytes, or the varint of a length and so many bytes.
 abbrev pub SpellsValue : Value → List ℕ → Type 0
-SpellsValue (varint n) b = Varint n b
+SpellsValue (varint n) b = IsVarint n b
 SpellsValue (i64 bytes) b = (length bytes ≡ 8) × (b ≡ bytes)
-SpellsValue (len bytes) b = (size : List ℕ) × Varint (length bytes) size × (b ≡ size ++ bytes)
+SpellsValue (len bytes) b = (size : List ℕ) × IsVarint (length bytes) size × (b ≡ size ++ bytes)
 SpellsValue (i32 bytes) b = (length bytes ≡ 4) × (b ≡ bytes)
 
 -- The bytes spell the field: its key, then its value. A field's number is in 1 to 2^29 - 1.
 pub record SpellsField (f : Field) (b : List ℕ) : Type 0 where
   pub least : 1 ≤ f.number
   pub most : f.number < 2 ^ 29
-  pub spelled : (key : List ℕ) × (rest : List ℕ) × Varint (key_of f) key × SpellsValue f.value rest × (b ≡ key ++ rest)
+  pub spelled : (key : List ℕ) × (rest : List ℕ) × IsVarint (key_of f) key × SpellsValue f.value rest × (b ≡ key ++ rest)
 
 -- A message is the spellings of its fields, one after another.
 abbrev pub IsMessage : List ℕ → List Field → Type 0
@@ -48,20 +50,7 @@ IsMessage b (f ∷ fs) = (front : List ℕ) × (rest : List ℕ) × SpellsField 
 -- A packed list is the spellings of its numbers, one after another.
 abbrev pub IsPacked : List ℕ → List ℕ → Type 0
 IsPacked b [] = b ≡ []
-IsPacked b (n ∷ ns) = (front : List ℕ) × (rest : List ℕ) × Varint n front × IsPacked rest ns × (b ≡ front ++ rest)
-
--- Why the bytes begin with no varint: they end within fewer than ten, or the tenth is neither 0 nor 1.
-pub data VarintFault : Type 0 where
-  short : VarintFault
-  long : VarintFault
-
--- the number of the varint that the bytes begin with, and how many bytes it takes
-unfoldable pub varint_front : List ℕ → Result (ℕ × ℕ) VarintFault
-varint_front bytes =
-    let ten = take 10 bytes in
-    let number = sevens (first_run ten) in
-    if high_run ten == length ten then Err (if length ten == 10 then long else short)
-    else (if nat_lt number (2 ^ 64) then Ok (number, suc (high_run ten)) else Err long)
+IsPacked b (n ∷ ns) = (front : List ℕ) × (rest : List ℕ) × IsVarint n front × IsPacked rest ns × (b ≡ front ++ rest)
 
 -- Why the bytes begin with no field.
 pub data WireFault : Type 0 where
@@ -157,10 +146,6 @@ are_varints bytes = list_all is_varint (runs bytes)
 -- the numbers of whole varints
 abbrev pub packed_numbers : List ℕ → List ℕ
 packed_numbers bytes = map sevens (runs bytes)
-
--- the number that a sint64 spells: 0, -1, 1, -2 and so on
-abbrev pub sint64 : ℕ → ℤ
-sint64 n = if n % 2 == 0 then pos (n / 2) else negsuc (n / 2)
 
 -- the number that an int64 spells: two's complement of 64 bits
 abbrev pub int64 : ℕ → ℤ

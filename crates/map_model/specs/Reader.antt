@@ -1,0 +1,64 @@
+-- Reading from left to right: a value and the bytes after it, or the first fault. This project's profile.
+use Rattle.std.specs.Prelude.{ℕ, zero, suc, List, [], ◌∷◌, length, take, drop, nat_lt, Bool, true, false, Result, Ok, Err, Option, Some, None, if◌then◌else◌}
+use Rattle.mf_base.specs.Steps.{◌>>=◌, require, told_as}
+use Rattle.byteorder.specs.Endian.{big_number}
+
+-- A field that has no spelling: why, and how many bytes were left where it starts.
+pub record Stop (Kind : Type 0) : Type 0 where
+  pub kind : Kind
+  pub left : ℕ
+
+-- what a reader answers
+abbrev pub Read : Type 0 → Type 0 → Type 0
+Read Kind X = Result (X × List ℕ) (Stop Kind)
+
+abbrev pub stop : {Kind : Type 0} → Kind → List ℕ → Stop Kind
+stop kind bytes = record { kind = kind; left = length bytes }
+
+-- the field that starts at these bytes stands only where the test passes
+abbrev pub want : {Kind : Type 0} → Bool → Kind → List ℕ → Result (Unit {0}) (Stop Kind)
+want passes kind bytes = require passes (stop kind bytes)
+
+-- a reading of another kind of fault, under this kind
+abbrev pub or_stop : {E Kind X : Type 0} → Kind → List ℕ → Result X E → Result X (Stop Kind)
+or_stop kind bytes read = told_as (λ e. stop kind bytes) read
+
+-- what stands at the front and takes so many bytes, and the bytes after it
+abbrev pub with_rest : {E X : Type 0} → List ℕ → Result (X × ℕ) E → Result (X × List ℕ) E
+with_rest bytes (Ok found) = Ok (found.0, drop found.1 bytes)
+with_rest bytes (Err e) = Err e
+
+-- so many bytes
+abbrev pub fixed : {Kind : Type 0} → Kind → ℕ → List ℕ → Read Kind (List ℕ)
+fixed short width bytes = if nat_lt (length bytes) width then Err (stop short bytes) else Ok (take width bytes, drop width bytes)
+
+-- a number of so many bytes, the highest first
+abbrev pub fixed_number : {Kind : Type 0} → Kind → ℕ → List ℕ → Read Kind ℕ
+fixed_number short width bytes = do
+  field ← fixed short width bytes
+  Ok (big_number width field.0, field.1)
+
+-- so many times the same
+unfoldable pub times : {Kind X : Type 0} → ℕ → (List ℕ → Read Kind X) → List ℕ → Read Kind (List X)
+times zero read bytes = Ok ([], bytes)
+times (suc n) read bytes = do
+  first ← read bytes
+  others ← times n read first.1
+  Ok (first.0 ∷ others.0, others.1)
+
+-- once for each element of a list
+unfoldable pub each : {Kind C X : Type 0} → (C → List ℕ → Read Kind X) → List C → List ℕ → Read Kind (List X)
+each read [] bytes = Ok ([], bytes)
+each read (c ∷ cs) bytes = do
+  first ← read c bytes
+  others ← each read cs first.1
+  Ok (first.0 ∷ others.0, others.1)
+
+abbrev pub with_some : {Kind X : Type 0} → Read Kind X → Read Kind (Option X)
+with_some (Ok r) = Ok (Some r.0, r.1)
+with_some (Err e) = Err e
+
+-- a field that is there where the flag is set
+abbrev pub where_set : {Kind X : Type 0} → Bool → (List ℕ → Read Kind X) → List ℕ → Read Kind (Option X)
+where_set true read bytes = with_some (read bytes)
+where_set false read bytes = Ok (None, bytes)

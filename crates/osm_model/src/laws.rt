@@ -1,0 +1,74 @@
+//! Laws of the definitions, each on a function that does nothing.
+
+ghost use Rattle.std.specs.Prelude.{◌≡◌, ℕ, List, [], ◌∷◌, ◌++◌, take, length, pos, ◌+ℤ◌, ◌<◌, suc, ℤ, true, Option, Result, filter_map, slice_index_or};
+ghost use Rattle.mf_base.specs.Spelling.{IsBytes};
+ghost use Rattle.osm_model.specs.Wire.{Field, WireFault, IsMessage, ReadsFields, fields, IsPacked, are_varints, packed_numbers};
+ghost use Rattle.osm_model.specs.Tables.{Table, FitsTable, message};
+ghost use Rattle.osm_model.specs.Frames.{Frame, FrameFaultAt, ReadsFrames, frames};
+ghost use Rattle.osm_model.specs.Blocks.{PrimitiveBlock, block};
+ghost use Rattle.osm_model.specs.Objects.{column, column_from, block_objects, int_sum, Object, EntityFault, told_entity, tag_runs, pairs_spelled, HasKeys, by_zero, with_list, behind_key};
+ghost use Rattle.osm_model.specs.Input.{input_fault, input_entities, block_fault, raw_entities, ReadsInput, good_frames, InputFault};
+ghost use Rattle.osm_model.specs.Reading.{Reading, with_front};
+ghost use Rattle.osm_model.specs.Order.{IsOrdered, no_order, Order, in_order, order_behind};
+
+/// What is read of bytes is a message in front and the first fault behind it, and nothing else is.
+pub fn one_reading_of_fields()
+    ensures reads { (bytes : List ℕ) → ReadsFields bytes (fields bytes) }
+    ensures only { (bytes : List ℕ) (read : Reading Field WireFault) → ReadsFields bytes read → fields bytes ≡ read }
+{}
+
+/// Whole varints are a packed list of their numbers, and of no others.
+pub fn one_packed_list()
+    ensures reads { (b : List ℕ) → are_varints b ≡ true → IsPacked b (packed_numbers b) }
+    ensures only { (b ns : List ℕ) → IsPacked b ns → (are_varints b ≡ true) × (packed_numbers b ≡ ns) }
+{}
+
+/// Bytes are a message of a table exactly where they spell fields that fit it.
+pub fn one_message_of_a_table()
+    ensures spelled { (table : Table) (bytes : List ℕ) (fs : List Field) → message table bytes ≡ Ok fs → IsMessage bytes fs × FitsTable table fs }
+    ensures reads { (table : Table) (bytes : List ℕ) (fs : List Field) → IsMessage bytes fs → FitsTable table fs → message table bytes ≡ Ok fs }
+{}
+
+/// What is read of an input is blobs in front and the first fault behind them, and nothing else is.
+pub fn one_reading_of_frames()
+    ensures reads { (bytes : List ℕ) → IsBytes bytes → ReadsFrames 0 bytes (frames bytes) }
+    ensures only { (bytes : List ℕ) (read : Reading Frame FrameFaultAt) → ReadsFrames 0 bytes read → frames bytes ≡ read }
+{}
+
+/// A number of a delta column is the sum of the differences up to it.
+pub fn column_of_sums()
+    ensures length { (ds : List ℤ) → length (column ds) ≡ length ds }
+    ensures sums { (ds : List ℤ) (i : ℕ) (d : ℤ) → i < length ds → slice_index_or (column ds) i d ≡ int_sum (take (suc i) ds) }
+    ensures begins { (ds : List ℤ) → column_from (pos 0) ds ≡ column ds }
+    ensures runs_on { (base d : ℤ) (ds : List ℤ) → column_from base (d ∷ ds) ≡ (base +ℤ d) ∷ column_from (base +ℤ d) ds }
+{}
+
+/// Where objects stand in order, the order changes nothing of what they are, and what follows is in order behind them.
+pub fn objects_in_order()
+    ensures same { (order : Order) (objects : List (Result Object EntityFault)) → (in_order order objects).fault ≡ None → filter_map told_entity objects ≡ (in_order order objects).items }
+    ensures parts { (order : Order) (objects others : List (Result Object EntityFault)) → (in_order order objects).fault ≡ None → in_order order (objects ++ others) ≡ with_front (in_order order objects).items (in_order (order_behind order (in_order order objects).items) others) }
+{}
+
+/// An input is blobs without a fault, and then nothing or the first step that is broken; and that is what is told of it.
+pub fn one_reading_of_input()
+    ensures reads { (bytes : List ℕ) → IsBytes bytes → ReadsInput bytes (good_frames bytes) (input_fault bytes) }
+    ensures only { (bytes : List ℕ) (good : List Frame) (fault : Option InputFault) → IsBytes bytes → ReadsInput bytes good fault → (good_frames bytes ≡ good) × (input_fault bytes ≡ fault) }
+{}
+
+/// The pairs of a dense node stand before its 0; the last may want it, or end behind a key.
+pub fn one_run_of_tags()
+    ensures closed { (pairs : List (ℕ × ℕ)) (rest : List ℕ) → HasKeys pairs → tag_runs (pairs_spelled pairs ++ (0 ∷ rest)) ≡ record { pairs = pairs; ends = by_zero } ∷ tag_runs rest }
+    ensures open_end { (pairs : List (ℕ × ℕ)) (p : ℕ × ℕ) → HasKeys (p ∷ pairs) → tag_runs (pairs_spelled (p ∷ pairs)) ≡ record { pairs = p ∷ pairs; ends = with_list } ∷ [] }
+    ensures cut { (pairs : List (ℕ × ℕ)) (k : ℕ) → HasKeys pairs → 0 < k → tag_runs (pairs_spelled pairs ++ (k ∷ [])) ≡ record { pairs = pairs; ends = behind_key k } ∷ [] }
+{}
+
+/// The objects of a block without a fault are those that are read in order.
+pub fn entities_of_a_block()
+    ensures { (order : Order) (raw : List ℕ) (b : PrimitiveBlock) → block raw ≡ Ok b → block_fault order raw ≡ None → raw_entities raw ≡ (in_order order (block_objects b)).items }
+{}
+
+/// In a block, and in the whole input, kinds do not go back, and the ids of each kind rise.
+pub fn objects_rise()
+    ensures in_a_block { (order : Order) (b : PrimitiveBlock) → IsOrdered order (in_order order (block_objects b)).items }
+    ensures in_the_input { (bytes : List ℕ) → IsOrdered no_order (input_entities bytes) }
+{}
