@@ -7,7 +7,7 @@ use lib.Utf8.{encode}
 use Rattle.mf_base.specs.Spelling.{vbe_unsigned, vbe_unsigned_within, vbe_magnitude, vbe_magnitude_within}
 use Rattle.mf_base.specs.NumberReading.{unsigned_front, signed_front}
 use Rattle.map_model.specs.Mercator.{column}
-use Rattle.map_model.specs.Listed.{ShownTag, way, shown_levels, value_kind}
+use Rattle.map_model.specs.Listed.{ShownTag, way, shown_levels, tag_kind}
 use Rattle.map_model.specs.Reader.{times, each}
 use Rattle.map_model.specs.TileReading.{number, signed, count_from, text_at, ranged, place_from, layer_at, id_at, tags_at, poi_at, places_after, ring_at, block_at, blocks_at, first_place_at, two_signed, label_and_blocks_at, way_body_at, way_at, counts_at, levels_at, read_tile_from, read_tile, TileKind}
 use Rattle.map_model.specs.HeaderReading.{string_at, tag_name_at, tag_list_at, box_at, interval_at, intervals_at, head_at, flags_at, optional_at, version_at, projection_at, fields_at, header_length, fields_of, read_header, HeaderKind, Header}
@@ -18,17 +18,17 @@ use Rattle.map_model.proofs.MapRows.{tile_rect-zero}
 use Rattle.map_model.proofs.ReadingRows.{bench_head}
 
 pub bench_read : read_tile_from world_corner bench_tags (world_tile 7).interval (drop 5 bench_sub_file) ≡ Ok (listed_bench ∷ [])
-unfolding read_tile_from levels_at times each counts_at number signed count_from text_at ranged place_from layer_at id_at tags_at poi_at unsigned_front signed_front is_utf8 chars encode vbe_unsigned vbe_unsigned_within vbe_magnitude vbe_magnitude_within value_kind shown_levels
+unfolding read_tile_from levels_at times each counts_at number signed count_from text_at ranged place_from layer_at id_at tags_at poi_at unsigned_front signed_front is_utf8 chars encode vbe_unsigned vbe_unsigned_within vbe_magnitude vbe_magnitude_within tag_kind shown_levels
 bench_read = refl
 
 -- the first-way offset, at place 16, is one too much
 pub bad_way_offset_read : read_tile_from world_corner bench_tags (world_tile 7).interval (set (drop 5 bench_sub_file) 16 0x0D) ≡ Err (record { at = 16; kind = TileKind.offset })
-unfolding read_tile_from levels_at times each counts_at number signed count_from text_at ranged place_from layer_at id_at tags_at poi_at unsigned_front signed_front is_utf8 chars encode vbe_unsigned vbe_unsigned_within vbe_magnitude vbe_magnitude_within value_kind shown_levels
+unfolding read_tile_from levels_at times each counts_at number signed count_from text_at ranged place_from layer_at id_at tags_at poi_at unsigned_front signed_front is_utf8 chars encode vbe_unsigned vbe_unsigned_within vbe_magnitude vbe_magnitude_within tag_kind shown_levels
 bad_way_offset_read = refl
 
 pub garden_read : read_tile_from world_corner garden_tags (world_tile 21).interval garden_tile ≡
     Ok (way (record { zoom = 17; layer = pos 0; bits = 0x0220; tags = ShownTag.plain (codes "leisure=garden") ∷ []; name = None; house = None; reference = None; label = Some (at_place (pos 5) (pos 10)); blocks = (garden_ring ∷ []) ∷ [] }) ∷ [])
-unfolding read_tile_from levels_at times each counts_at number signed count_from text_at ranged place_from layer_at id_at tags_at poi_at unsigned_front signed_front is_utf8 chars encode vbe_unsigned vbe_unsigned_within vbe_magnitude vbe_magnitude_within value_kind shown_levels way_at way_body_at label_and_blocks_at first_place_at two_signed blocks_at block_at ring_at places_after
+unfolding read_tile_from levels_at times each counts_at number signed count_from text_at ranged place_from layer_at id_at tags_at poi_at unsigned_front signed_front is_utf8 chars encode vbe_unsigned vbe_unsigned_within vbe_magnitude vbe_magnitude_within tag_kind shown_levels way_at way_body_at label_and_blocks_at first_place_at two_signed blocks_at block_at ring_at places_after
 garden_read = refl
 
 pub garden_line : way_line (record { zoom = 17; layer = pos 0; bits = 0x0220; tags = ShownTag.plain (codes "leisure=garden") ∷ []; name = None; house = None; reference = None; label = Some (at_place (pos 5) (pos 10)); blocks = (garden_ring ∷ []) ∷ [] })

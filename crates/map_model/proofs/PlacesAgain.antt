@@ -1,4 +1,6 @@
 -- What a tile tells is read again from its bytes.
+use Rattle.feature_model.specs.Features.{Block}
+use Rattle.feature_model.specs.Inside.{Ring}
 use Rattle.std.proofs.Common.{◌≡◌, ℕ, zero, suc, ◌+◌, ◌-◌, ◌^◌, ◌<◌, ◌≤◌, List, [], ◌∷◌, ◌++◌, length, refl, ap, ◌∙◌, arith, inl, inr, true, false, length-append, append_assoc}
 use Rattle.std.specs.Prelude.{Bool, ◌&&◌, flat_map, cond, ℤ, pos, negsuc, neg_ℤ, nat_abs, ◌+ℤ◌, ◌-ℤ◌, nat_lt, Ok, leb}
 use Rattle.std.proofs.lemmas.Bool.{cases_lt, lt-ltb, le-ltb, le-leb, leb-true}
@@ -134,14 +136,14 @@ place_from-twice before last p hb hl hp rest =
       ranged-by (before.lon +ℤ last.lon) (p.lon -ℤ before.lon -ℤ last.lon) p.lon (forth before.lon last.lon p.lon) (second_step last.lon (p.lon -ℤ before.lon) hl.lon (near before.lon p.lon hb.1 hp.1)) hp.1 rest,
     ) refl
 
-single_after : (ps : List Place) (before last : Place) → IsInRange before → AllByRecursion IsInRange ps → Again (places_after false (length ps) before last) (flat_map step_bytes (steps_from before ps)) ps
+single_after : (ps : Ring) (before last : Place) → IsInRange before → AllByRecursion IsInRange ps → Again (places_after false (length ps) before last) (flat_map step_bytes (steps_from before ps)) ps
 unfolding Again places_after
 single_after [] before last hb h rest = refl
 single_after (p ∷ ps) before last hb h rest =
     ap (places_after false (suc (length ps)) before last) (append_assoc (step_bytes (step before p)) (flat_map step_bytes (steps_from p ps)) rest)
     ∙ rw (place_from-again before p hb h.0 (flat_map step_bytes (steps_from p ps) ++ rest), single_after ps p (step before p) h.0 h.1 rest) refl
 
-double_after : (ps : List Place) (before last : Place) → IsInRange before → IsStep last → AllByRecursion IsInRange ps → Again (places_after true (length ps) before last) (flat_map step_bytes (steps_from last (steps_from before ps))) ps
+double_after : (ps : Ring) (before last : Place) → IsInRange before → IsStep last → AllByRecursion IsInRange ps → Again (places_after true (length ps) before last) (flat_map step_bytes (steps_from last (steps_from before ps))) ps
 unfolding Again places_after
 double_after [] before last hb hl h rest = refl
 double_after (p ∷ ps) before last hb hl h rest =
@@ -149,21 +151,21 @@ double_after (p ∷ ps) before last hb hl h rest =
     ∙ rw (place_from-twice before last p hb hl h.0 (flat_map step_bytes (steps_from (step before p) (steps_from p ps)) ++ rest), double_after ps p (step before p) h.0 (step-step before p hb h.0) h.1 rest) refl
 
 -- what stands after the first place of a ring
-pub after_first : Bool → Place → List Place → List ℕ
+pub after_first : Bool → Place → Ring → List ℕ
 after_first true first ps = flat_map step_bytes (steps_from origin (steps_from first ps))
 after_first false first ps = flat_map step_bytes (steps_from first ps)
 
-pub coordinates-split : (corner : Place) (double : Bool) (first : Place) (ps : List Place) → coordinate_bytes corner double (first ∷ ps) ≡ step_bytes (step corner first) ++ after_first double first ps
+pub coordinates-split : (corner : Place) (double : Bool) (first : Place) (ps : Ring) → coordinate_bytes corner double (first ∷ ps) ≡ step_bytes (step corner first) ++ after_first double first ps
 unfolding coordinate_bytes ring_steps after_first
 coordinates-split corner true first ps = refl
 coordinates-split corner false first ps = refl
 
-places_after-again : (double : Bool) (ps : List Place) (first : Place) → IsInRange first → AllByRecursion IsInRange ps → Again (places_after double (length ps) first origin) (after_first double first ps) ps
+places_after-again : (double : Bool) (ps : Ring) (first : Place) → IsInRange first → AllByRecursion IsInRange ps → Again (places_after double (length ps) first origin) (after_first double first ps) ps
 unfolding Again after_first
 places_after-again true ps first hf h = double_after ps first origin hf origin-step h
 places_after-again false ps first hf h = single_after ps first origin hf h
 
-pub ring_at-again : (corner : Place) (double : Bool) (ring : List Place) → IsInRange corner → IsRing ring → Again (ring_at corner double) (ring_bytes corner double ring) ring
+pub ring_at-again : (corner : Place) (double : Bool) (ring : Ring) → IsInRange corner → IsRing ring → Again (ring_at corner double) (ring_bytes corner double ring) ring
 unfolding Again ring_at ring_bytes
 ring_at-again corner double [] hc h rest = absurd (let two = h.0 in omega (arith, two))
 ring_at-again corner double (first ∷ ps) hc h rest =
@@ -183,7 +185,7 @@ times-again read bytes Fits again (x ∷ xs) h rest =
     ap (times (suc (length xs)) read) (append_assoc (bytes x) (flat_map bytes xs) rest)
     ∙ rw (again x h.0 (flat_map bytes xs ++ rest), times-again read bytes Fits again xs h.1 rest) refl
 
-pub block_at-again : (corner : Place) (double : Bool) (rings : List (List Place)) → IsInRange corner → IsBlock rings → Again (block_at corner double) (block_bytes corner double rings) rings
+pub block_at-again : (corner : Place) (double : Bool) (rings : Block) → IsInRange corner → IsBlock rings → Again (block_at corner double) (block_bytes corner double rings) rings
 unfolding Again block_at block_bytes
 block_at-again corner double rings hc h rest =
     ap (block_at corner double) (append_assoc (vbe_unsigned (length rings)) (flat_map (ring_bytes corner double) rings) rest)

@@ -1,4 +1,6 @@
 -- What POIs and ways tell is read again from their bytes.
+use Rattle.feature_model.specs.Features.{Block}
+use Rattle.feature_model.specs.Inside.{Ring}
 use Rattle.std.proofs.Common.{◌≡◌, ℕ, zero, suc, ◌+◌, ◌-◌, ◌*◌, ◌/◌, ◌%◌, ◌^◌, ◌<◌, ◌≤◌, List, [], ◌∷◌, ◌++◌, map, length, refl, sym, ap, ◌∙◌, arith, true, false, length-append, append_assoc, append-nil}
 use Rattle.std.specs.Prelude.{Bool, flat_map, zip, cond, ℤ, pos, negsuc, ◌+ℤ◌, ◌-ℤ◌, Ok, Some, None, Option, IsTrue, leb, is_some, IfSome}
 use Rattle.std.specs.List.{AllByRecursion}
@@ -24,7 +26,8 @@ use Rattle.map_model.specs.Tiles.{zooms, in_order}
 use Rattle.map_model.specs.TileBytes.{tile_corner, tile_bytes, written_level, written_levels}
 use Rattle.map_model.proofs.CornerLemmas.{tile_corner-in_range}
 use Rattle.map_model.proofs.LevelLemmas.{levels-spelt, levels-shown}
-use Rattle.map_model.specs.Listed.{TagLists, Listed, listed, shown_levels, ValueKind, value_kind, tag_at}
+use Rattle.map_model.specs.Listed.{TagLists, Listed, listed, shown_levels, tag_kind, tag_at}
+use Rattle.feature_model.specs.Mapping.{ValueKind}
 use Rattle.map_model.specs.Reader.{Read, fixed_number, times, each, where_set}
 use Rattle.map_model.specs.TileReading.{TileKind, number, text_at, ranged, layer_at, id_at, value_at, kept_at, tags_at, has_flag, poi_at, block_at, block_count_at, blocks_at, first_place_at, two_signed, label_and_blocks_at, way_body_at, way_at, counts_at, level_of, levels_at, read_tile_from, read_tile, ReadsTile, IsLevel, SpellsLevels, IsText, IsInRange, IsOfKind, IsKeptOf, IsPoi, IsBlock, IsWay}
 use Rattle.map_model.proofs.SizeLemmas.{length-big_endian}
@@ -85,7 +88,7 @@ signed_fits half n le = omega (arith, le)
 
 pub value_at-again : (kind : ValueKind) (value : KeptValue) → IsOfKind kind value → Again (value_at kind) (value_bytes value) value
 unfolding Again
-value_at-again ValueKind.none KeptValue.plain h rest = refl
+value_at-again ValueKind.plain KeptValue.plain h rest = refl
 value_at-again ValueKind.byte (KeptValue.byte (pos n)) h rest =
     let le = leb-true n 127 h in
     rw (fixed_number-again 1 n (omega (arith, le)) rest, to_z-of_z w8 (pos n) (record { sfits = omega (arith, le) })) refl
@@ -111,25 +114,25 @@ pub id_at-again : (tags : List (List ℕ)) (id : ℕ) → id < length tags → i
 unfolding Again id_at
 id_at-again tags id known fits rest = rw (number-again id fits rest, lt-ltb id (length tags) known) refl
 
-ids-again : (tags : List (List ℕ)) (kept : List Kept) → AllByRecursion (IsKeptOf tags) kept → (rest : List ℕ) → times (length kept) (id_at tags) (flat_map (λ k. vbe_unsigned k.id) kept ++ rest) ≡ Ok (map (λ k. k.id) kept, rest)
+ids-again : (tags : List (List ℕ)) (kept : List Kept) → AllByRecursion (IsKeptOf tags) kept → (rest : List ℕ) → times (length kept) (id_at tags) (flat_map (λ k. vbe_unsigned k.tag) kept ++ rest) ≡ Ok (map (λ k. k.tag) kept, rest)
 unfolding times Again
 ids-again tags [] h rest = refl
 ids-again tags (k ∷ kept) h rest =
-    ap (times (suc (length kept)) (id_at tags)) (append_assoc (vbe_unsigned k.id) (flat_map (λ k. vbe_unsigned k.id) kept) rest)
-    ∙ rw (id_at-again tags k.id h.0.0 h.0.1 (flat_map (λ k. vbe_unsigned k.id) kept ++ rest), ids-again tags kept h.1 rest) refl
+    ap (times (suc (length kept)) (id_at tags)) (append_assoc (vbe_unsigned k.tag) (flat_map (λ k. vbe_unsigned k.tag) kept) rest)
+    ∙ rw (id_at-again tags k.tag h.0.0 h.0.1 (flat_map (λ k. vbe_unsigned k.tag) kept ++ rest), ids-again tags kept h.1 rest) refl
 
-values-again : (tags : List (List ℕ)) (kept : List Kept) → AllByRecursion (IsKeptOf tags) kept → (rest : List ℕ) → each (kept_at tags) (map (λ k. k.id) kept) (flat_map (λ k. value_bytes k.value) kept ++ rest) ≡ Ok (kept, rest)
+values-again : (tags : List (List ℕ)) (kept : List Kept) → AllByRecursion (IsKeptOf tags) kept → (rest : List ℕ) → each (kept_at tags) (map (λ k. k.tag) kept) (flat_map (λ k. value_bytes k.value) kept ++ rest) ≡ Ok (kept, rest)
 unfolding each Again
 values-again tags [] h rest = refl
 values-again tags (k ∷ kept) h rest =
-    ap (each (kept_at tags) (k.id ∷ map (λ k. k.id) kept)) (append_assoc (value_bytes k.value) (flat_map (λ k. value_bytes k.value) kept) rest)
-    ∙ rw (value_at-again (value_kind (tag_at tags k.id)) k.value h.0.2 (flat_map (λ k. value_bytes k.value) kept ++ rest), values-again tags kept h.1 rest) refl
+    ap (each (kept_at tags) (k.tag ∷ map (λ k. k.tag) kept)) (append_assoc (value_bytes k.value) (flat_map (λ k. value_bytes k.value) kept) rest)
+    ∙ rw (value_at-again (tag_kind (tag_at tags k.tag)) k.value h.0.2 (flat_map (λ k. value_bytes k.value) kept ++ rest), values-again tags kept h.1 rest) refl
 
 pub tags_at-again : (tags : List (List ℕ)) (kept : List Kept) → AllByRecursion (IsKeptOf tags) kept → (rest : List ℕ)
-    → tags_at tags (length kept) (flat_map (λ k. vbe_unsigned k.id) kept ++ flat_map (λ k. value_bytes k.value) kept ++ rest) ≡ Ok (kept, rest)
+    → tags_at tags (length kept) (flat_map (λ k. vbe_unsigned k.tag) kept ++ flat_map (λ k. value_bytes k.value) kept ++ rest) ≡ Ok (kept, rest)
 unfolding tags_at
 tags_at-again tags kept h rest =
-    ap (tags_at tags (length kept)) (append_assoc (flat_map (λ k. vbe_unsigned k.id) kept) (flat_map (λ k. value_bytes k.value) kept) rest)
+    ap (tags_at tags (length kept)) (append_assoc (flat_map (λ k. vbe_unsigned k.tag) kept) (flat_map (λ k. value_bytes k.value) kept) rest)
     ∙ rw (ids-again tags kept h (flat_map (λ k. value_bytes k.value) kept ++ rest), values-again tags kept h rest) refl
 
 -- ---- flags
@@ -187,7 +190,7 @@ poi_flag p few =
 
 -- the layer, the tags and what follows them
 after_layer : List Kept → List ℕ → List ℕ
-after_layer tags rest = flat_map (λ k. vbe_unsigned k.id) tags ++ flat_map (λ k. value_bytes k.value) tags ++ rest
+after_layer tags rest = flat_map (λ k. vbe_unsigned k.tag) tags ++ flat_map (λ k. value_bytes k.value) tags ++ rest
 
 tag_bytes-split : (layer : ℤ) (tags : List Kept) (rest : List ℕ) → tag_bytes layer tags ++ rest ≡ layer_byte layer (length tags) ∷ after_layer tags rest
 unfolding tag_bytes after_layer
@@ -252,15 +255,15 @@ way_flag w few =
     )
 
 -- the number of data blocks, where it is told
-count_bytes : Bool → List (List (List Place)) → List ℕ
+count_bytes : Bool → List Block → List ℕ
 count_bytes counted blocks = cond counted (vbe_unsigned (length blocks)) []
 
-block_count-again : (counted : Bool) (blocks : List (List (List Place))) → (counted ≡ false → length blocks ≡ 1) → 1 ≤ length blocks → length blocks < 2 ^ 63 → (rest : List ℕ) → block_count_at counted (count_bytes counted blocks ++ rest) ≡ Ok (length blocks, rest)
+block_count-again : (counted : Bool) (blocks : List Block) → (counted ≡ false → length blocks ≡ 1) → 1 ≤ length blocks → length blocks < 2 ^ 63 → (rest : List ℕ) → block_count_at counted (count_bytes counted blocks ++ rest) ≡ Ok (length blocks, rest)
 unfolding count_bytes Again
 block_count-again true blocks single some few rest = count_from-again 1 (length blocks) some few rest
 block_count-again false blocks single some few rest = ap (λ n. Ok (n, rest)) (sym (single refl))
 
-blocks_again : (corner : Place) (counted double : Bool) (blocks : List (List (List Place))) → IsInRange corner → (counted ≡ false → length blocks ≡ 1) → 1 ≤ length blocks → length blocks < 2 ^ 63 → AllByRecursion IsBlock blocks → (rest : List ℕ)
+blocks_again : (corner : Place) (counted double : Bool) (blocks : List Block) → IsInRange corner → (counted ≡ false → length blocks ≡ 1) → 1 ≤ length blocks → length blocks < 2 ^ 63 → AllByRecursion IsBlock blocks → (rest : List ℕ)
     → blocks_at corner counted double (count_bytes counted blocks ++ (flat_map (block_bytes corner double) blocks ++ rest)) ≡ Ok (blocks, rest)
 unfolding blocks_at Again
 blocks_again corner counted double blocks hc single some few h rest =
@@ -270,7 +273,7 @@ blocks_again corner counted double blocks hc single some few h rest =
     all rest = times-again (block_at corner double) (block_bytes corner double) IsBlock (λ rings hr. block_at-again corner double rings hc hr) blocks h rest
 
 -- a block begins with the number of its rings, and a ring with the number of its places and the first of them
-first_of_ring : (corner : Place) (double : Bool) (p : Place) (ps : List Place) (rest : List ℕ) → (after : List ℕ) × (ring_bytes corner double (p ∷ ps) ++ rest ≡ vbe_unsigned (suc (length ps)) ++ (step_bytes (step corner p) ++ after))
+first_of_ring : (corner : Place) (double : Bool) (p : Place) (ps : Ring) (rest : List ℕ) → (after : List ℕ) × (ring_bytes corner double (p ∷ ps) ++ rest ≡ vbe_unsigned (suc (length ps)) ++ (step_bytes (step corner p) ++ after))
 unfolding ring_bytes
 first_of_ring corner double p ps rest = (
   after_first double p ps ++ rest,
@@ -279,12 +282,12 @@ first_of_ring corner double p ps rest = (
       ∙ ap (λ c. vbe_unsigned (suc (length ps)) ++ c) (append_assoc (step_bytes (step corner p)) (after_first double p ps) rest),
 )
 
-first_of_block : (corner : Place) (double : Bool) (ring : List Place) (rings : List (List Place)) (rest : List ℕ) → block_bytes corner double (ring ∷ rings) ++ rest ≡ vbe_unsigned (suc (length rings)) ++ (ring_bytes corner double ring ++ (flat_map (ring_bytes corner double) rings ++ rest))
+first_of_block : (corner : Place) (double : Bool) (ring : Ring) (rings : Block) (rest : List ℕ) → block_bytes corner double (ring ∷ rings) ++ rest ≡ vbe_unsigned (suc (length rings)) ++ (ring_bytes corner double ring ++ (flat_map (ring_bytes corner double) rings ++ rest))
 unfolding block_bytes
 first_of_block corner double ring rings rest = simp append_assoc refl
 
 -- the first place is found before anything after it is looked at
-first_place-again : (corner : Place) (counted double : Bool) (blocks : List (List (List Place))) → IsInRange corner → (counted ≡ false → length blocks ≡ 1) → 1 ≤ length blocks → length blocks < 2 ^ 63 → AllByRecursion IsBlock blocks → (rest : List ℕ)
+first_place-again : (corner : Place) (counted double : Bool) (blocks : List Block) → IsInRange corner → (counted ≡ false → length blocks ≡ 1) → 1 ≤ length blocks → length blocks < 2 ^ 63 → AllByRecursion IsBlock blocks → (rest : List ℕ)
     → (after : List ℕ) × (first_place_at corner counted (count_bytes counted blocks ++ (flat_map (block_bytes corner double) blocks ++ rest)) ≡ Ok (first_of_blocks blocks, after))
 unfolding first_place_at Again
 first_place-again corner counted double [] hc single some few h rest = absurd (omega (arith, some))
@@ -318,16 +321,16 @@ two_signed-again a p ha hp rest =
     ap two_signed (append_assoc (vbe_signed (p.lat -ℤ a.lat)) (vbe_signed (p.lon -ℤ a.lon)) rest)
     ∙ rw (signed-again (p.lat -ℤ a.lat) (nat_abs-step a.lat p.lat ha.0 hp.0) (vbe_signed (p.lon -ℤ a.lon) ++ rest), signed-again (p.lon -ℤ a.lon) (nat_abs-step a.lon p.lon ha.1 hp.1) rest) refl
 
-first_in_range : (blocks : List (List (List Place))) → 1 ≤ length blocks → AllByRecursion IsBlock blocks → IsInRange (first_of_blocks blocks)
+first_in_range : (blocks : List Block) → 1 ≤ length blocks → AllByRecursion IsBlock blocks → IsInRange (first_of_blocks blocks)
 first_in_range [] some h = absurd (omega (arith, some))
 first_in_range ([] ∷ blocks) some h = absurd (let one = h.0.0 in omega (arith, one))
 first_in_range (([] ∷ rings) ∷ blocks) some h = absurd (let two = h.0.2.0.0 in omega (arith, two))
 first_in_range (((p ∷ ps) ∷ rings) ∷ blocks) some h = h.0.2.0.2.0
 
-label_bytes : List (List (List Place)) → Option Place → List ℕ
+label_bytes : List Block → Option Place → List ℕ
 label_bytes blocks label = optional (λ p. step_bytes (step (first_of_blocks blocks) p)) label
 
-label_and_blocks-again : (corner : Place) (flags : ℕ) (label : Option Place) (counted double : Bool) (blocks : List (List (List Place))) → has_flag flags 0x10 ≡ is_some label → has_flag flags 0x08 ≡ counted → has_flag flags 0x04 ≡ double
+label_and_blocks-again : (corner : Place) (flags : ℕ) (label : Option Place) (counted double : Bool) (blocks : List Block) → has_flag flags 0x10 ≡ is_some label → has_flag flags 0x08 ≡ counted → has_flag flags 0x04 ≡ double
     → IsInRange corner → IfSome label IsInRange → (counted ≡ false → length blocks ≡ 1) → 1 ≤ length blocks → length blocks < 2 ^ 63 → AllByRecursion IsBlock blocks → (rest : List ℕ)
     → label_and_blocks_at corner flags (label_bytes blocks label ++ (count_bytes counted blocks ++ (flat_map (block_bytes corner double) blocks ++ rest))) ≡ Ok ((label, blocks), rest)
 unfolding label_and_blocks_at label_bytes Again

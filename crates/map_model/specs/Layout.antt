@@ -1,4 +1,6 @@
 -- The bytes of a POI, a way and a tile: Mapsforge map format 5, on tile header, POIs and ways; variable values are this project's profile.
+use Rattle.feature_model.specs.Features.{Block}
+use Rattle.feature_model.specs.Inside.{Ring}
 use Rattle.std.specs.Prelude.{ℕ, ◌+◌, ◌*◌, if◌then◌else◌, Bool, ℤ, pos, ◌+ℤ◌, ◌-ℤ◌, List, [], ◌∷◌, ◌++◌, flat_map, length, Option, Some, None, is_some}
 use Rattle.std.specs.Int.{w8, w16, w32, cast_unsigned}
 use Rattle.mf_base.specs.Spelling.{vbe_unsigned, vbe_signed, string, big_endian}
@@ -30,7 +32,7 @@ pub record WayFields : Type 0 where
   pub label : Option Place
   pub counted : Bool
   pub double : Bool
-  pub blocks : List (List (List Place))
+  pub blocks : List Block
 
 -- what a tile tells of one zoom level
 pub record Level : Type 0 where
@@ -64,7 +66,7 @@ value_bytes (KeptValue.text bytes) = string bytes
 
 -- layer and number of tags, the tag ids, then the variable values in the same order
 unfoldable pub tag_bytes : ℤ → List Kept → List ℕ
-tag_bytes layer tags = layer_byte layer (length tags) ∷ flat_map (λ k. vbe_unsigned k.id) tags ++ flat_map (λ k. value_bytes k.value) tags
+tag_bytes layer tags = layer_byte layer (length tags) ∷ flat_map (λ k. vbe_unsigned k.tag) tags ++ flat_map (λ k. value_bytes k.value) tags
 
 -- how far b is from a, in latitude and in longitude
 abbrev pub step : Place → Place → Place
@@ -86,34 +88,34 @@ poi_fields_bytes corner p =
 -- ---- way
 
 -- each place less the one before, the first less the place before them all
-abbrev pub steps_from : Place → List Place → List Place
+abbrev pub steps_from : Place → Ring → Ring
 steps_from before [] = []
 steps_from before (p ∷ ps) = step before p ∷ steps_from p ps
 
 -- under double delta each step after the first is written less the step before it, the first one counting as 0
-abbrev pub doubled : List Place → List Place
+abbrev pub doubled : Ring → Ring
 doubled [] = []
 doubled (first ∷ steps) = first ∷ steps_from origin steps
 
 -- what is written of a ring's places
-unfoldable pub ring_steps : Place → Bool → List Place → List Place
+unfoldable pub ring_steps : Place → Bool → Ring → Ring
 ring_steps corner double ring = if double then doubled (steps_from corner ring) else steps_from corner ring
 
-unfoldable pub coordinate_bytes : Place → Bool → List Place → List ℕ
+unfoldable pub coordinate_bytes : Place → Bool → Ring → List ℕ
 coordinate_bytes corner double ring = flat_map step_bytes (ring_steps corner double ring)
 
-unfoldable pub ring_bytes : Place → Bool → List Place → List ℕ
+unfoldable pub ring_bytes : Place → Bool → Ring → List ℕ
 ring_bytes corner double ring = vbe_unsigned (length ring) ++ coordinate_bytes corner double ring
 
 -- a data block: the number of its rings, then the rings
-unfoldable pub block_bytes : Place → Bool → List (List Place) → List ℕ
+unfoldable pub block_bytes : Place → Bool → Block → List ℕ
 block_bytes corner double rings = vbe_unsigned (length rings) ++ flat_map (ring_bytes corner double) rings
 
 abbrev pub way_flags : WayFields → ℕ
 way_flags w = flag (is_some w.name) 0x80 + flag (is_some w.house) 0x40 + flag (is_some w.reference) 0x20 + flag (is_some w.label) 0x10 + flag w.counted 0x08 + flag w.double 0x04 + w.other
 
 -- the first place of the first ring
-abbrev pub first_of_blocks : List (List (List Place)) → Place
+abbrev pub first_of_blocks : List Block → Place
 first_of_blocks blocks = first_place (flat_map (λ rings. flat_map (λ ring. ring) rings) blocks)
 
 -- the fields after the data size; the label is its place less the first place of the first ring

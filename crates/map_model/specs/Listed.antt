@@ -1,13 +1,14 @@
 -- What a reader of a map sees of a tile. This project's profile.
-use Rattle.std.specs.Prelude.{ℕ, ◌==◌, ℤ, List, [], ◌++◌, map, flat_map, zip, Option, slice_index_or, codes, if◌then◌else◌}
+use Rattle.feature_model.specs.Features.{Block}
+use Rattle.std.specs.Prelude.{ℕ, ◌==◌, ℤ, List, [], ◌++◌, map, flat_map, zip, Option, slice_index_or, if◌then◌else◌}
 use Rattle.std.specs.List.{before_first, after_first}
-use Rattle.std.specs.Str.{bytes_eq}
 use Rattle.mf_base.specs.declared.place.Place.{Place}
 use Rattle.mf_base.specs.declared.tile.Interval.{Interval}
 use Rattle.mf_base.specs.declared.tile.TilePlace.{TilePlace}
 use Rattle.feature_model.specs.Mapping.{KeptValue}
 use Rattle.feature_model.specs.Choice.{Kept}
 use Rattle.feature_model.specs.Features.{Feature}
+use Rattle.feature_model.specs.Mapping.{ValueKind, value_kind}
 use Rattle.map_model.specs.Tiles.{is_poi, effective_zoom, sub_tile_bits, zooms}
 use Rattle.map_model.specs.Layout.{PoiFields, WayFields, Level}
 use Rattle.map_model.specs.TileBytes.{poi_fields, way_fields, tile_corner}
@@ -41,7 +42,7 @@ pub record ListedWay : Type 0 where
   pub house : Option (List ℕ)
   pub reference : Option (List ℕ)
   pub label : Option Place
-  pub blocks : List (List (List Place))
+  pub blocks : List Block
 
 pub data Listed : Type 0 where
   poi : ListedPoi → Listed
@@ -50,30 +51,15 @@ pub data Listed : Type 0 where
 -- ---- tags of the header
 
 -- what stands before the first `=` of a tag's text, and what stands after it
-abbrev pub key_of : List ℕ → List ℕ
-key_of tag = before_first (λ b. b == 61) tag
+abbrev pub tag_key : List ℕ → List ℕ
+tag_key tag = before_first (λ b. b == 61) tag
 
-abbrev pub value_of : List ℕ → List ℕ
-value_of tag = after_first (λ b. b == 61) tag
+abbrev pub tag_value : List ℕ → List ℕ
+tag_value tag = after_first (λ b. b == 61) tag
 
--- the values that are kinds; any other value, or none, stands for itself
-pub data ValueKind : Type 0 where
-  none : ValueKind
-  byte : ValueKind
-  short : ValueKind
-  int : ValueKind
-  text : ValueKind
-
-abbrev pub kind_of_value : List ℕ → ValueKind
-kind_of_value value =
-    if bytes_eq value (codes "%b") then ValueKind.byte
-    else (if bytes_eq value (codes "%h") then ValueKind.short
-    else (if bytes_eq value (codes "%i") then ValueKind.int
-    else (if bytes_eq value (codes "%s") then ValueKind.text
-    else ValueKind.none)))
-
-unfoldable pub value_kind : List ℕ → ValueKind
-value_kind tag = kind_of_value (value_of tag)
+-- the kind of a tag's value
+unfoldable pub tag_kind : List ℕ → ValueKind
+tag_kind tag = value_kind (tag_value tag)
 
 -- the text of the tag with this id
 abbrev pub tag_at : List (List ℕ) → ℕ → List ℕ
@@ -83,13 +69,13 @@ tag_at tags id = slice_index_or tags id []
 
 abbrev pub shown_value : List ℕ → KeptValue → ShownTag
 shown_value tag KeptValue.plain = ShownTag.plain tag
-shown_value tag (KeptValue.byte n) = ShownTag.number (key_of tag) n
-shown_value tag (KeptValue.short n) = ShownTag.number (key_of tag) n
-shown_value tag (KeptValue.int n) = ShownTag.number (key_of tag) n
-shown_value tag (KeptValue.text bytes) = ShownTag.text (key_of tag) bytes
+shown_value tag (KeptValue.byte n) = ShownTag.number (tag_key tag) n
+shown_value tag (KeptValue.short n) = ShownTag.number (tag_key tag) n
+shown_value tag (KeptValue.int n) = ShownTag.number (tag_key tag) n
+shown_value tag (KeptValue.text bytes) = ShownTag.text (tag_key tag) bytes
 
 abbrev pub shown_tags : List (List ℕ) → List Kept → List ShownTag
-shown_tags tags kept = map (λ k. shown_value (tag_at tags k.id) k.value) kept
+shown_tags tags kept = map (λ k. shown_value (tag_at tags k.tag) k.value) kept
 
 abbrev pub shown_poi : List (List ℕ) → ℕ → PoiFields → ListedPoi
 shown_poi tags zoom p = record { zoom = zoom; layer = p.layer; place = p.place; tags = shown_tags tags p.tags; name = p.name; house = p.house; height = p.height }

@@ -1,4 +1,5 @@
 -- Features of the worked rows.
+use Rattle.feature_model.specs.Inside.{Ring}
 use Rattle.std.specs.Prelude.{ℕ, ℤ, pos, negsuc, List, [], ◌∷◌, ◌++◌, None, true, false, codes, replicate}
 use Rattle.mf_base.specs.declared.kind.EntityKind.TheVariants.{Node, Way}
 use Rattle.mf_base.specs.declared.place.Place.{Place}
@@ -28,7 +29,7 @@ bench = record {
   label = false;
   coast = false;
   height = None;
-  tags = record { id = 0; value = KeptValue.plain } ∷ [];
+  tags = record { tag = 0; value = KeptValue.plain } ∷ [];
   name = None;
   house = None;
   reference = None;
@@ -38,10 +39,10 @@ bench = record {
 
 -- the same with one tag of another value, as of zoom 17
 abbrev pub bench_with_value : KeptValue → Feature
-bench_with_value value = record bench { zoom = 17; tags = record { id = 0; value = value } ∷ [] }
+bench_with_value value = record bench { zoom = 17; tags = record { tag = 0; value = value } ∷ [] }
 
 -- a way of zoom 17 through these places, with the tag of entry 0
-abbrev pub way_of : List Place → Feature
+abbrev pub way_of : Ring → Feature
 way_of places = record {
   kind = Way;
   id = 1;
@@ -51,7 +52,7 @@ way_of places = record {
   label = false;
   coast = false;
   height = None;
-  tags = record { id = 0; value = KeptValue.plain } ∷ [];
+  tags = record { tag = 0; value = KeptValue.plain } ∷ [];
   name = None;
   house = None;
   reference = None;
@@ -60,14 +61,14 @@ way_of places = record {
 }
 
 -- a closed way with the label mark
-abbrev pub garden_ring : List Place
+abbrev pub garden_ring : Ring
 garden_ring = at_place (pos 0) (pos 0) ∷ at_place (pos 0) (pos 20) ∷ at_place (pos 10) (pos 20) ∷ at_place (pos 10) (pos 0) ∷ at_place (pos 0) (pos 0) ∷ []
 
 abbrev pub garden : Feature
 garden = record (way_of garden_ring) { label = true }
 
 -- four places, each 1,000 microdegrees east of the last
-abbrev pub eastward : List Place
+abbrev pub eastward : Ring
 eastward = at_place (pos 0) (pos 0) ∷ at_place (pos 0) (pos 1000) ∷ at_place (pos 0) (pos 2000) ∷ at_place (pos 0) (pos 3000) ∷ []
 
 -- one interval of base zoom 0 up to a maximum, a date, and nothing optional

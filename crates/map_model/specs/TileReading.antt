@@ -1,5 +1,7 @@
 -- Reading a tile, with its first fault: Mapsforge map format 5, on tile header, POIs and ways; the faults are this project's profile.
-use Rattle.std.specs.Prelude.{◌≡◌, ℕ, zero, suc, ◌+◌, ◌-◌, ◌/◌, ◌%◌, ◌^◌, ◌<◌, ◌≤◌, nat_lt, nat_le, ◌==◌, if◌then◌else◌, Bool, true, false, IsTrue, ℤ, pos, negsuc, ◌+ℤ◌, ◌-ℤ◌, List, [], ◌∷◌, map, zip, length, take, drop, Option, Some, None, IfSome, Result, Ok, Err, ⊤}
+use Rattle.feature_model.specs.Features.{Block}
+use Rattle.feature_model.specs.Inside.{Ring}
+use Rattle.std.specs.Prelude.{◌≡◌, ℕ, zero, suc, ◌+◌, ◌-◌, ◌/◌, ◌%◌, ◌^◌, ◌<◌, ◌≤◌, nat_lt, nat_le, ◌==◌, if◌then◌else◌, Bool, true, false, IsTrue, ℤ, pos, negsuc, ◌+ℤ◌, ◌-ℤ◌, List, [], ◌∷◌, map, zip, length, take, drop, Option, IfSome, Result, Ok, Err, ⊤}
 use Rattle.std.specs.List.{AllByRecursion}
 use Rattle.std.specs.Str.{is_utf8}
 use Rattle.std.specs.Int.{w8, w16, w32, cast_signed}
@@ -14,7 +16,8 @@ use Rattle.mf_base.specs.Steps.{fault_of}
 use Rattle.map_model.specs.Tiles.{origin, zooms}
 use Rattle.map_model.specs.Layout.{PoiFields, WayFields, Level, step, levels_bytes}
 use Rattle.map_model.specs.TileBytes.{tile_corner}
-use Rattle.map_model.specs.Listed.{TagLists, Listed, ValueKind, value_kind, tag_at, shown_levels}
+use Rattle.map_model.specs.Listed.{TagLists, Listed, tag_kind, tag_at, shown_levels}
+use Rattle.feature_model.specs.Mapping.{ValueKind}
 use Rattle.map_model.specs.Reader.{Stop, Read, want, or_stop, with_rest, fixed_number, times, each, where_set}
 use Rattle.mf_base.specs.Steps.{◌>>=◌}
 
@@ -90,7 +93,7 @@ id_at tags bytes = do
 
 -- the value of a tag of this kind
 abbrev pub value_at : ValueKind → List ℕ → Read TileKind KeptValue
-value_at ValueKind.none bytes = Ok (KeptValue.plain, bytes)
+value_at ValueKind.plain bytes = Ok (KeptValue.plain, bytes)
 value_at ValueKind.byte bytes = do
   n ← fixed_number TileKind.short 1 bytes
   Ok (KeptValue.byte (cast_signed w8 n.0), n.1)
@@ -107,8 +110,8 @@ value_at ValueKind.text bytes = do
 -- the tag with this id, and its value
 abbrev pub kept_at : List (List ℕ) → ℕ → List ℕ → Read TileKind Kept
 kept_at tags id bytes = do
-  value ← value_at (value_kind (tag_at tags id)) bytes
-  Ok (record { id = id; value = value.0 }, value.1)
+  value ← value_at (tag_kind (tag_at tags id)) bytes
+  Ok (record { tag = id; value = value.0 }, value.1)
 
 -- all tag ids, then the values in their order
 unfoldable pub tags_at : List (List ℕ) → ℕ → List ℕ → Read TileKind (List Kept)
@@ -138,7 +141,7 @@ abbrev pub moved : Place → Place → Place
 moved a s = record { lat = a.lat +ℤ s.lat; lon = a.lon +ℤ s.lon }
 
 -- the places after one, the last step before it being known
-unfoldable pub places_after : Bool → ℕ → Place → Place → List ℕ → Read TileKind (List Place)
+unfoldable pub places_after : Bool → ℕ → Place → Place → List ℕ → Read TileKind (Ring)
 places_after double zero before last bytes = Ok ([], bytes)
 places_after double (suc n) before last bytes = do
   p ← place_from (if double then moved before last else before) bytes
@@ -146,7 +149,7 @@ places_after double (suc n) before last bytes = do
   Ok (p.0 ∷ others.0, others.1)
 
 -- two places at least, the first told by how far it is from the corner
-unfoldable pub ring_at : Place → Bool → List ℕ → Read TileKind (List Place)
+unfoldable pub ring_at : Place → Bool → List ℕ → Read TileKind (Ring)
 ring_at corner double bytes = do
   n ← count_from 2 bytes
   first ← place_from corner n.1
@@ -154,7 +157,7 @@ ring_at corner double bytes = do
   Ok (first.0 ∷ others.0, others.1)
 
 -- one ring at least
-unfoldable pub block_at : Place → Bool → List ℕ → Read TileKind (List (List Place))
+unfoldable pub block_at : Place → Bool → List ℕ → Read TileKind (Block)
 block_at corner double bytes = do
   n ← count_from 1 bytes
   times n.0 (ring_at corner double) n.1
@@ -165,7 +168,7 @@ block_count_at true bytes = count_from 1 bytes
 block_count_at false bytes = Ok (1, bytes)
 
 -- one data block at least
-unfoldable pub blocks_at : Place → Bool → Bool → List ℕ → Read TileKind (List (List (List Place)))
+unfoldable pub blocks_at : Place → Bool → Bool → List ℕ → Read TileKind (List Block)
 blocks_at corner counted double bytes = do
   n ← block_count_at counted bytes
   times n.0 (block_at corner double) n.1
@@ -187,7 +190,7 @@ two_signed bytes = do
 
 -- The label's numbers are read in their place; whether its place is in range is known with the first place of the first ring,
 -- and then it comes before what stands behind that place.
-unfoldable pub label_and_blocks_at : Place → ℕ → List ℕ → Read TileKind (Option Place × List (List (List Place)))
+unfoldable pub label_and_blocks_at : Place → ℕ → List ℕ → Read TileKind (Option Place × List Block)
 label_and_blocks_at corner flags bytes = do
   numbers ← where_set (has_flag flags 0x10) two_signed bytes
   first ← first_place_at corner (has_flag flags 0x08) numbers.1
@@ -285,7 +288,7 @@ IsInRange p = IsTrue (is_signed_32 p.lat) × IsTrue (is_signed_32 p.lon)
 
 -- a value of a tag of this kind
 abbrev pub IsOfKind : ValueKind → KeptValue → Type 0
-IsOfKind ValueKind.none KeptValue.plain = ⊤
+IsOfKind ValueKind.plain KeptValue.plain = ⊤
 IsOfKind ValueKind.byte (KeptValue.byte n) = IsTrue (lies_within (negsuc 127) (pos 127) n)
 IsOfKind ValueKind.short (KeptValue.short n) = IsTrue (lies_within (negsuc 32767) (pos 32767) n)
 IsOfKind ValueKind.int (KeptValue.int n) = IsTrue (is_signed_32 n)
@@ -294,7 +297,7 @@ IsOfKind _ _ = ⊥
 
 -- a tag of the list, with a value of its kind
 abbrev pub IsKeptOf : List (List ℕ) → Kept → Type 0
-IsKeptOf tags k = (k.id < length tags) × (k.id < 2 ^ 63) × IsOfKind (value_kind (tag_at tags k.id)) k.value
+IsKeptOf tags k = (k.tag < length tags) × (k.tag < 2 ^ 63) × IsOfKind (tag_kind (tag_at tags k.tag)) k.value
 
 -- what a POI can tell: tags in any order, and unnamed flag bits
 pub record IsPoi (tags : List (List ℕ)) (p : PoiFields) : Type 0 where
@@ -308,11 +311,11 @@ pub record IsPoi (tags : List (List ℕ)) (p : PoiFields) : Type 0 where
   pub height : IfSome p.height (λ n. IsTrue (is_signed_32 n))
 
 -- two places at least
-abbrev pub IsRing : List Place → Type 0
+abbrev pub IsRing : Ring → Type 0
 IsRing ring = (2 ≤ length ring) × (length ring < 2 ^ 63) × AllByRecursion IsInRange ring
 
 -- one ring at least
-abbrev pub IsBlock : List (List Place) → Type 0
+abbrev pub IsBlock : Block → Type 0
 IsBlock rings = (1 ≤ length rings) × (length rings < 2 ^ 63) × AllByRecursion IsRing rings
 
 -- what a way can tell: besides, any bitmap, either delta kind, and any number of data blocks from 1 where it is told

@@ -1,4 +1,6 @@
 -- Tiles, and which features are in them: Mapsforge map format 5, on tiles and base zoom levels; this project's profile.
+use Rattle.feature_model.specs.Features.{Block}
+use Rattle.feature_model.specs.Inside.{Ring}
 use Rattle.std.specs.Prelude.{ℕ, suc, ◌+◌, ◌-◌, ◌*◌, ◌^◌, max, min, nat_le, ◌==◌, if◌then◌else◌, Bool, true, false, not, ◌&&◌, pos, ◌+ℤ◌, List, [], ◌∷◌, ◌++◌, map, filter, flat_map, fold, sum_by, length, slice_index_or, Option, Some, None}
 use Rattle.std.specs.Int.{int_min, int_max}
 use Rattle.std.specs.List.{range_with_len}
@@ -14,30 +16,30 @@ use Rattle.map_model.specs.Numbers.{floor_div, int_eq}
 use Rattle.map_model.specs.Mercator.{row, column}
 
 -- the blocks of rings of a feature; a node has none
-abbrev pub blocks_of : Shape → List (List (List Place))
+abbrev pub blocks_of : Shape → List Block
 blocks_of (Shape.point p) = []
 blocks_of (Shape.blocks found) = found
 
-abbrev pub rings_of : Feature → List (List Place)
+abbrev pub rings_of : Feature → Block
 rings_of f = flat_map (λ rings. rings) (blocks_of f.shape)
 
 -- the places of a feature, a node having one
-abbrev pub places_of_shape : Shape → List Place
+abbrev pub places_of_shape : Shape → Ring
 places_of_shape (Shape.point p) = p ∷ []
 places_of_shape (Shape.blocks found) = flat_map (λ rings. flat_map (λ ring. ring) rings) found
 
-abbrev pub places_of : Feature → List Place
+abbrev pub places_of : Feature → Ring
 places_of f = places_of_shape f.shape
 
 abbrev pub origin : Place
 origin = record { lat = pos 0; lon = pos 0 }
 
-abbrev pub first_place : List Place → Place
+abbrev pub first_place : Ring → Place
 first_place [] = origin
 first_place (p ∷ ps) = p
 
 -- the rectangle from the least to the greatest latitude and longitude
-unfoldable pub rect_of_places : List Place → Rect
+unfoldable pub rect_of_places : Ring → Rect
 rect_of_places places = record {
   min_lat = fold (λ a p. int_min a p.lat) (first_place places).lat places;
   min_lon = fold (λ a p. int_min a p.lon) (first_place places).lon places;
@@ -149,11 +151,11 @@ abbrev pub same_place : Place → Place → Bool
 same_place a b = int_eq a.lat b.lat && int_eq a.lon b.lon
 
 -- the first and the last place are equal
-abbrev pub is_closed : List Place → Bool
+abbrev pub is_closed : Ring → Bool
 is_closed [] = false
 is_closed (p ∷ ps) = same_place p (slice_index_or (p ∷ ps) (length ps) p)
 
-abbrev pub first_ring_is_closed : List (List Place) → Bool
+abbrev pub first_ring_is_closed : Block → Bool
 first_ring_is_closed [] = false
 first_ring_is_closed (ring ∷ rings) = is_closed ring
 

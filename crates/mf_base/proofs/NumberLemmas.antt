@@ -1,9 +1,8 @@
 -- A number that stands at the front is read, and what is read stands at the front.
-use Rattle.std.proofs.Common.{◌≡◌, ◌⊎◌, ℕ, zero, suc, ◌+◌, ◌*◌, ◌/◌, ◌%◌, ◌^◌, ◌<◌, ◌≤◌, true, List, [], ◌∷◌, ◌++◌, length, take, get_or, refl, sym, ap, subst, ◌∙◌, arith, inl, inr, Ok}
-use Rattle.std.specs.Prelude.{nat_lt, nat_le, ◌&&◌, ◌||◌, ℤ, pos, negsuc, neg_ℤ, nat_abs, Result}
+use Rattle.std.proofs.Common.{◌≡◌, ◌⊎◌, ℕ, zero, suc, ◌+◌, ◌*◌, ◌/◌, ◌%◌, ◌^◌, ◌<◌, ◌≤◌, true, List, [], ◌∷◌, ◌++◌, length, take, refl, sym, ap, subst, ◌∙◌, arith, inl, inr, Ok}
+use Rattle.std.specs.Prelude.{nat_lt, nat_le, ℤ, pos, negsuc, nat_abs}
 use Rattle.std.proofs.lemmas.Bool.{cases_lt, lt-ltb, le-leb, ltb-true, leb-true, and_from, and_parts, or_left, or_cases, eq-eqb, ne_eqb, cases_eq}
 use Rattle.std.proofs.lemmas.List.{length-append, get_or-take, get_or_past, length-take}
-use Rattle.mf_base.specs.Steps.{◌>>=◌, require}
 use Rattle.mf_base.specs.Spelling.{IsBytes, IsVbeUnsigned, IsVbeMagnitude, IsVbeSigned, IsVarint, vbe_unsigned, vbe_magnitude, vbe_signed, zigzag_of, unzigzag_of, high_run, sevens, first_run}
 use Rattle.mf_base.specs.NumberReading.{has_end, is_narrow, run_size, varint_front, unsigned_front, sixes, run_sign, with_sign, signed_front}
 use Rattle.mf_base.proofs.StepLaws.{bind_ok, require_ok, ok_is}

@@ -1,5 +1,5 @@
 -- Steps in order, each with an answer or a fault, up to the first fault. What is read, checked or refused in an order is said with these words.
-use Rattle.std.specs.Prelude.{ℕ, Bool, true, false, List, [], ◌∷◌, Option, Some, None, Result, Ok, Err}
+use Rattle.std.specs.Prelude.{Bool, true, false, List, [], ◌∷◌, Option, Some, None, Result, Ok, Err}
 
 -- one step and then the next, which may use its answer; the first that fails tells the fault
 infixl 10 ◌>>=◌
