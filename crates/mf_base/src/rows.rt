@@ -3,10 +3,10 @@
 ghost use Rattle.std.specs.Prelude.{◌≡◌, ◌^◌, ◌*◌, ◌-◌, map, Some, None, Ok, Err, true, false, codes, pos, negsuc, [], ◌∷◌, ◌++◌, replicate};
 ghost use Rattle.mf_base.specs.Spelling.{vbe_unsigned, vbe_signed, string, big_endian, zigzag_of, unzigzag_of};
 ghost use Rattle.mf_base.specs.NumberReading.{varint_front, unsigned_front, signed_front};
-ghost use Rattle.mf_base.specs.Ranges.{is_signed_32, is_signed_64, is_latitude, is_longitude};
+ghost use Rattle.mf_base.specs.Ranges.{is_signed_32, is_signed_64, is_latitude, is_longitude, is_rect};
 ghost use Rattle.mf_base.specs.Tags.{value_of, text_of, present_text, readable_text};
 ghost use Rattle.mf_base.specs.Numbers.{whole_number, height, zoom_number, whole_in, number_in};
-ghost use Rattle.mf_base.specs.Words.{words_keep, word_of};
+ghost use Rattle.mf_base.specs.Words.{words_keep, word_of, names_in};
 ghost use Rattle.mf_base.specs.Root.{isqrt};
 ghost use Rattle.mf_base.specs.declared.number.VbeFault.TheVariants as vbe;
 ghost use Rattle.mf_base.specs.declared.number.VarintFault.TheVariants as varint;
@@ -48,6 +48,9 @@ pub fn bounds()
     ensures small { map is_signed_32 (pos 2147483647 ∷ pos 2147483648 ∷ negsuc 2147483647 ∷ negsuc 2147483648 ∷ []) ≡ true ∷ false ∷ true ∷ false ∷ [] }
     ensures large { map is_signed_64 (pos 9223372036854775807 ∷ pos 9223372036854775808 ∷ negsuc 9223372036854775807 ∷ negsuc 9223372036854775808 ∷ []) ≡ true ∷ false ∷ true ∷ false ∷ [] }
     ensures latitudes { map is_latitude (pos 90000000 ∷ pos 90000001 ∷ negsuc 89999999 ∷ negsuc 90000000 ∷ []) ≡ true ∷ false ∷ true ∷ false ∷ [] }
+    ensures rects { map is_rect (record { min_lat = negsuc 89999999; min_lon = negsuc 179999999; max_lat = pos 90000000; max_lon = pos 180000000 } ∷ record { min_lat = pos 1; min_lon = pos 1; max_lat = pos 1; max_lon = pos 1 }
+        ∷ record { min_lat = pos 2; min_lon = pos 1; max_lat = pos 1; max_lon = pos 1 } ∷ record { min_lat = pos 1; min_lon = pos 2; max_lat = pos 1; max_lon = pos 1 } ∷ record { min_lat = negsuc 90000000; min_lon = pos 1; max_lat = pos 1; max_lon = pos 1 } ∷ [])
+        ≡ true ∷ true ∷ false ∷ false ∷ false ∷ [] }
     ensures longitudes { map is_longitude (pos 180000000 ∷ pos 180000001 ∷ negsuc 179999999 ∷ negsuc 180000000 ∷ []) ≡ true ∷ false ∷ true ∷ false ∷ [] }
 {}
 
@@ -75,7 +78,8 @@ pub fn numbers_of_words()
     ensures zooms { map zoom_number (codes "5" ∷ codes "21" ∷ codes "22" ∷ codes "00000000000000000005" ∷ codes "000000000000000000005" ∷ codes "-0" ∷ codes "" ∷ [])
         ≡ Some 5 ∷ Some 21 ∷ None ∷ Some 5 ∷ None ∷ None ∷ None ∷ [] }
     ensures seed { map (number_in 0 (2 ^ 64 - 1)) (codes "18446744073709551615" ∷ codes "18446744073709551616" ∷ []) ≡ Some 18446744073709551615 ∷ None ∷ [] }
-    ensures signed { map (whole_in (negsuc 89999999) (pos 90000000)) (codes "-90000000" ∷ codes "-0" ∷ codes "90000001" ∷ codes "-" ∷ []) ≡ Some (negsuc 89999999) ∷ Some (pos 0) ∷ None ∷ None ∷ [] }
+    ensures no_sign { map (number_in 0 9) (codes "-1" ∷ codes "9" ∷ codes "10" ∷ []) ≡ None ∷ Some 9 ∷ None ∷ [] }
+    ensures signed { map (whole_in (negsuc 89999999) (pos 90000000)) (codes "-90000000" ∷ codes "-90000001" ∷ codes "-0" ∷ codes "90000001" ∷ codes "-" ∷ codes "-00000000000000000001" ∷ codes "-000000000000000000001" ∷ []) ≡ Some (negsuc 89999999) ∷ None ∷ Some (pos 0) ∷ None ∷ None ∷ Some (negsuc 0) ∷ None ∷ [] }
 {}
 
 /// The first pair of a key counts, and a text of 1,021 bytes counts as absent.
@@ -112,6 +116,7 @@ pub fn words_of_lines()
         ∷ (codes "poi" ∷ [])
         ∷ (codes "" ∷ []) ∷ [])
         ≡ false ∷ false ∷ false ∷ false ∷ false ∷ false ∷ false ∷ false ∷ false ∷ false ∷ false ∷ false ∷ [] }
+    ensures names { map names_in (codes "poi,rows" ∷ codes "" ∷ codes "a,,b" ∷ []) ≡ (codes "poi" ∷ codes "rows" ∷ []) ∷ [] ∷ (codes "a" ∷ codes "b" ∷ []) ∷ [] }
     ensures values { map (word_of (codes "--poi=a=b@5" ∷ codes "--rows" ∷ codes "64" ∷ [])) (codes "poi" ∷ codes "rows" ∷ codes "box" ∷ [])
         ≡ Some (codes "a=b@5") ∷ Some (codes "64") ∷ None ∷ [] }
 {}
