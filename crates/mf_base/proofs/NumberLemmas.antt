@@ -91,11 +91,11 @@ unsigned-passes bytes whole few fits short = rw (has_end-run bytes whole, is_nar
 pub unsigned_front-again : (n : ℕ) (rest : List ℕ) → n < 2 ^ 63 → unsigned_front (vbe_unsigned n ++ rest) ≡ Ok (n, length (vbe_unsigned n))
 unsigned_front-again n rest fits =
     let r = reads n (vbe_unsigned n) (vbe_unsigned-is n) in
-    let a = alone (vbe_unsigned n) rest r.shortest.run in
+    let a = alone (vbe_unsigned n) rest r.run in
     let value : sevens (first_run (vbe_unsigned n ++ rest)) ≡ n = ap sevens a.front ∙ r.value in
     let few = length-vbe_unsigned-63 n fits in
-    unsigned-passes (vbe_unsigned n ++ rest) a.whole (omega (arith, a.count, r.shortest.run, few)) (rw value fits) (rw value (omega (arith, a.count, r.shortest.run)))
-    ∙ (rw (value, a.count, r.shortest.run) refl)
+    unsigned-passes (vbe_unsigned n ++ rest) a.whole (omega (arith, a.count, r.run, few)) (rw value fits) (rw value (omega (arith, a.count, r.run)))
+    ∙ (rw (value, a.count, r.run) refl)
 
 -- one run that no shorter spelling has is the spelling of its number
 unsigned-spells : (run : List ℕ) → IsBytes run → length run ≡ suc (high_run run) → length run ≤ length (vbe_unsigned (sevens run)) → IsVbeUnsigned (sevens run) run

@@ -67,9 +67,6 @@ length-vbe_unsigned-positive n =
       | inr large ↦ rw (vbe_unsigned-more n large) (omega arith)
     ]
 
--- what a writer of unsigned numbers uses
-pub ruleset unsigned_steps = (vbe_unsigned-small, vbe_unsigned-more, length-vbe_unsigned-63, length-vbe_unsigned-positive)
-
 -- ---- under a sign
 
 pub vbe_magnitude_within-small : (most m s : ℕ) → m < 64 → vbe_magnitude_within (suc most) m s ≡ (m + 64 * s) ∷ []
@@ -124,12 +121,3 @@ length-vbe_magnitude-le (suc k) m s fits =
 -- a magnitude below 2 ^ 63 takes at most ten bytes
 pub length-vbe_magnitude-63 : (m s : ℕ) → m < 2 ^ 63 → length (vbe_magnitude m s) ≤ 10
 length-vbe_magnitude-63 m s fits = length-vbe_magnitude-le 9 m s (omega arith)
-
-pub length-vbe_magnitude-positive : (m s : ℕ) → 0 < length (vbe_magnitude m s)
-length-vbe_magnitude-positive m s =
-    elim (cases_lt m 64) [
-      | inl small ↦ rw (vbe_magnitude-small m s small) (omega arith)
-      | inr large ↦ rw (vbe_magnitude-more m s large) (omega arith)
-    ]
-
-pub ruleset signed_steps = (vbe_magnitude-small, vbe_magnitude-more, length-vbe_magnitude-63, length-vbe_magnitude-positive)
