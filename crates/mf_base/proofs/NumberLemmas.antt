@@ -1,13 +1,13 @@
 -- A number that stands at the front is read, and what is read stands at the front.
 use Rattle.std.proofs.Common.{◌≡◌, ◌⊎◌, ℕ, zero, suc, ◌+◌, ◌*◌, ◌/◌, ◌%◌, ◌^◌, ◌<◌, ◌≤◌, true, List, [], ◌∷◌, ◌++◌, length, take, refl, sym, ap, subst, ◌∙◌, arith, inl, inr, Ok}
-use Rattle.std.specs.Prelude.{nat_lt, nat_le, ℤ, pos, negsuc, nat_abs}
-use Rattle.std.proofs.lemmas.Bool.{cases_lt, lt-ltb, le-leb, ltb-true, leb-true, and_from, and_parts, or_left, or_cases, eq-eqb, ne_eqb, cases_eq}
+use Rattle.std.specs.Prelude.{nat_lt, nat_le, ◌||◌, ◌==◌, ℤ, pos, negsuc, nat_abs}
+use Rattle.std.proofs.lemmas.Bool.{cases_lt, lt-ltb, le-leb, ltb-true, leb-true, and_from, and_parts, or_left, or_right, or_cases, eq-eqb, ne_eqb, cases_eq}
 use Rattle.std.proofs.lemmas.List.{length-append, get_or-take, get_or_past, length-take}
-use Rattle.mf_base.specs.Spelling.{IsBytes, IsVbeUnsigned, IsVbeMagnitude, IsVbeSigned, IsVarint, vbe_unsigned, vbe_magnitude, vbe_signed, zigzag_of, unzigzag_of, high_run, sevens, first_run}
-use Rattle.mf_base.specs.NumberReading.{has_end, is_narrow, run_size, varint_front, unsigned_front, sixes, run_sign, with_sign, signed_front}
+use Rattle.mf_base.specs.Spelling.{IsBytes, IsVbe, IsVbeUnsigned, IsVbeSigned, IsVarint, vbe, vbe_unsigned, vbe_signed, zigzag_of, unzigzag_of, high_run, sevens, first_run}
+use Rattle.mf_base.specs.NumberReading.{has_end, is_narrow, run_size, varint_front, run_magnitude, run_sign, vbe_front, unsigned_front, with_sign, signed_front}
 use Rattle.mf_base.proofs.StepLaws.{bind_ok, require_ok, ok_is}
-use Rattle.mf_base.proofs.Vbe.{vbe_unsigned-only, vbe_unsigned-is, vbe_unsigned-small, vbe_unsigned-more, vbe_magnitude-only, vbe_magnitude-is, vbe_magnitude-small, vbe_magnitude-more, length-vbe_unsigned-63, length-vbe_magnitude-63}
-use Rattle.mf_base.proofs.Runs.{reads, high_run-low, high_run-high, high_run-append, first_run-append, length-first_run, high_run-first_run}
+use Rattle.mf_base.proofs.Vbe.{vbe-only, vbe-is, vbe-small, vbe-more, length-vbe_unsigned-63, length-vbe_signed-63}
+use Rattle.mf_base.proofs.Runs.{high_run-low, high_run-high, high_run-append, first_run-append, length-first_run, high_run-first_run}
 
 -- ---- the tests of a run
 
@@ -82,44 +82,107 @@ varint_found bytes n size e =
     let pair = ok_is (sevens (first_run bytes), run_size bytes) (n, size) narrow.2 in
     subst (λ (p : ℕ × ℕ). IsFront p.0 p.1 bytes) pair (front_from bytes r)
 
--- ---- unsigned VBE numbers
+-- ---- VBE numbers
 
-unsigned-passes : (bytes : List ℕ) → high_run bytes < length bytes → high_run bytes < 10 → sevens (first_run bytes) < 2 ^ 63 → run_size bytes ≤ length (vbe_unsigned (sevens (first_run bytes))) → unsigned_front bytes ≡ Ok (sevens (first_run bytes), run_size bytes)
-unfolding unsigned_front
-unsigned-passes bytes whole few fits short = rw (has_end-run bytes whole, is_narrow-run bytes (2 ^ 63) (sevens (first_run bytes)) few fits, le-leb (run_size bytes) (length (vbe_unsigned (sevens (first_run bytes)))) short) refl
+-- How many bits of a magnitude are in the last byte: seven of an unsigned number, six of a signed one.
+data Width : ℕ → Type 0 where
+  seven : Width 128
+  six : Width 64
 
-pub unsigned_front-again : (n : ℕ) (rest : List ℕ) → n < 2 ^ 63 → unsigned_front (vbe_unsigned n ++ rest) ≡ Ok (n, length (vbe_unsigned n))
-unsigned_front-again n rest fits =
-    let r = reads n (vbe_unsigned n) (vbe_unsigned-is n) in
-    let a = alone (vbe_unsigned n) rest r.run in
-    let value : sevens (first_run (vbe_unsigned n ++ rest)) ≡ n = ap sevens a.front ∙ r.value in
-    let few = length-vbe_unsigned-63 n fits in
-    unsigned-passes (vbe_unsigned n ++ rest) a.whole (omega (arith, a.count, r.run, few)) (rw value fits) (rw value (omega (arith, a.count, r.run)))
-    ∙ (rw (value, a.count, r.run) refl)
+-- the bit of a sign beside them
+data Sign : ℕ → ℕ → Type 0 where
+  plain : {last : ℕ} → Sign last 0
+  minus : Sign 64 64
 
--- one run that no shorter spelling has is the spelling of its number
-unsigned-spells : (run : List ℕ) → IsBytes run → length run ≡ suc (high_run run) → length run ≤ length (vbe_unsigned (sevens run)) → IsVbeUnsigned (sevens run) run
-unsigned-spells [] small one short = absurd (omega (arith, one))
-unsigned-spells (b ∷ c) small one short =
+some_bits : (last : ℕ) → Width last → 0 < last
+some_bits last seven = omega arith
+some_bits last six = omega arith
+
+-- a last byte, taken apart and put together
+last-parts : (last sign m byte : ℕ) → Width last → Sign last sign → m < last → byte ≡ m + sign → (byte < 128) × (byte % last ≡ m) × (last * (byte / last % 2) ≡ sign)
+last-parts last sign m byte seven plain small is = (omega (arith, small, is), omega (arith, small, is), omega (arith, small, is))
+last-parts last sign m byte six plain small is = (omega (arith, small, is), omega (arith, small, is), omega (arith, small, is))
+last-parts last sign m byte six minus small is = (omega (arith, small, is), omega (arith, small, is), omega (arith, small, is))
+
+last-whole : (last byte : ℕ) → Width last → byte < 128 → (byte % last < last) × (byte ≡ byte % last + last * (byte / last % 2))
+last-whole last byte seven low = (omega (arith, low), omega (arith, low))
+last-whole last byte six low = (omega (arith, low), omega (arith, low))
+
+last-sign : (last byte : ℕ) → Width last → byte < 128 → Sign last (last * (byte / last % 2))
+last-sign last byte seven low = subst (Sign 128) (omega (arith, low)) plain
+last-sign last byte six low = elim (cases_lt byte 64) [
+  | inl less ↦ subst (Sign 64) (omega (arith, less)) plain
+  | inr more ↦ subst (Sign 64) (omega (arith, low, more)) minus
+]
+
+-- a spelling is one run, and tells its magnitude and its sign
+record IsSpelledRun (last sign m : ℕ) (bytes : List ℕ) : Type 0 where
+  run : length bytes ≡ suc (high_run bytes)
+  magnitude : run_magnitude last bytes ≡ m
+  signed : run_sign last bytes ≡ sign
+
+spelled_run : (last sign m : ℕ) (bytes : List ℕ) → Width last → Sign last sign → IsVbe last sign m bytes → IsSpelledRun last sign m bytes
+spelled_run last sign m [] width signed h = absurd h
+spelled_run last sign m (b ∷ []) width signed (inl h) =
+    let parts = last-parts last sign m b width signed h.0 h.1 in
+    record { run = omega (arith, high_run-low b [] parts.0); magnitude = parts.1; signed = parts.2 }
+spelled_run last sign m (b ∷ c ∷ d) width signed (inl h) = cc h.2
+spelled_run last sign m (b ∷ []) width signed (inr h) = absurd h.2
+spelled_run last sign m (b ∷ c ∷ d) width signed (inr h) =
+    let e = high_run-high b (c ∷ d) (omega (arith, h.1)) in
+    let rest = spelled_run last sign (m / 128) (c ∷ d) width signed h.2 in
+    record { run = omega (arith, e, rest.run); magnitude = omega (arith, h.1, rest.magnitude); signed = rest.signed }
+
+vbe-passes : (last : ℕ) (bytes : List ℕ) (sign m : ℕ) → run_magnitude last (first_run bytes) ≡ m → run_sign last (first_run bytes) ≡ sign → high_run bytes < length bytes → high_run bytes < 10 → m < 2 ^ 63
+    → (nat_lt 0 m || sign == 0) ≡ true → run_size bytes ≤ length (vbe last sign m) → vbe_front last bytes ≡ Ok ((sign, m), run_size bytes)
+unfolding vbe_front
+vbe-passes last bytes sign m em es whole few fits positive short =
+    rw (em, es, has_end-run bytes whole, is_narrow-run bytes (2 ^ 63) m few fits, positive, le-leb (run_size bytes) (length (vbe last sign m)) short) refl
+
+-- what is spelled is read, whatever follows
+vbe_front-again : (last sign m : ℕ) (rest : List ℕ) → Width last → Sign last sign → length (vbe last sign m) ≤ 10 → m < 2 ^ 63 → (nat_lt 0 m || sign == 0) ≡ true → vbe_front last (vbe last sign m ++ rest) ≡ Ok ((sign, m), length (vbe last sign m))
+vbe_front-again last sign m rest width signed few fits positive =
+    let r = spelled_run last sign m (vbe last sign m) width signed (vbe-is last sign m (some_bits last width)) in
+    let a = alone (vbe last sign m) rest r.run in
+    vbe-passes last (vbe last sign m ++ rest) sign m (ap (run_magnitude last) a.front ∙ r.magnitude) (ap (run_sign last) a.front ∙ r.signed) a.whole (omega (arith, a.count, r.run, few)) fits positive (omega (arith, a.count, r.run))
+    ∙ (rw (a.count, r.run) refl)
+
+-- one run that no shorter spelling has is the spelling of its magnitude under its sign
+run-spells : (last : ℕ) (run : List ℕ) → Width last → IsBytes run → length run ≡ suc (high_run run) → length run ≤ length (vbe last (run_sign last run) (run_magnitude last run)) → IsVbe last (run_sign last run) (run_magnitude last run) run
+run-spells last [] width small one short = absurd (omega (arith, one))
+run-spells last (b ∷ []) width small one short =
     elim (cases_lt b 128) [
-      | inl low ↦ alone_byte c (omega (arith, high_run-low b c low, one)) low
+      | inl low ↦ (let parts = last-whole last b width low in inl (parts.0, parts.1, refl))
+      | inr high ↦ absurd (omega (arith, high_run-high b [] high, one))
+    ]
+run-spells last (b ∷ c ∷ d) width small one short =
+    elim (cases_lt b 128) [
+      | inl low ↦ absurd (omega (arith, high_run-low b (c ∷ d) low, one))
       | inr high ↦
-          let run : length c ≡ suc (high_run c) = omega (arith, high_run-high b c high, one) in
-          let large = more c run short in
-          let rest : (b % 128 + 128 * sevens c) / 128 ≡ sevens c = omega arith in
-          let shorter : length c ≤ length (vbe_unsigned (sevens c)) = omega (arith, short, ap length (vbe_unsigned-more (b % 128 + 128 * sevens c) large), ap (λ k. length (vbe_unsigned k)) rest) in
-          inr (large, omega (arith, small 0, high), rw rest (unsigned-spells c (λ i. small (suc i)) run shorter))
+          let run : length (c ∷ d) ≡ suc (high_run (c ∷ d)) = omega (arith, high_run-high b (c ∷ d) high, one) in
+          let rest : (b % 128 + 128 * run_magnitude last (c ∷ d)) / 128 ≡ run_magnitude last (c ∷ d) = omega arith in
+          let spelt = vbe-more last (run_sign last (c ∷ d)) (b % 128 + 128 * run_magnitude last (c ∷ d)) (some_bits last width) large in
+          let shorter : length (c ∷ d) ≤ length (vbe last (run_sign last (c ∷ d)) (run_magnitude last (c ∷ d))) = omega (arith, short, ap length spelt, ap (λ k. length (vbe last (run_sign last (c ∷ d)) k)) rest) in
+          inr (large, omega (arith, small 0, high), rw rest (run-spells last (c ∷ d) width (λ i. small (suc i)) run shorter))
     ]
   where
-    alone_byte : (c : List ℕ) → length c ≡ 0 → b < 128 → IsVbeUnsigned (b % 128 + 128 * sevens c) (b ∷ c)
-    alone_byte [] none low = inl (omega (arith, low), omega (arith, low), refl)
-    alone_byte (d ∷ e) none low = absurd (omega (arith, none))
-
-    more : (c : List ℕ) → length c ≡ suc (high_run c) → suc (length c) ≤ length (vbe_unsigned (b % 128 + 128 * sevens c)) → 128 ≤ b % 128 + 128 * sevens c
-    more c run short = elim (cases_lt (b % 128 + 128 * sevens c) 128) [
-      | inl small ↦ absurd (omega (arith, run, short, ap length (vbe_unsigned-small (b % 128 + 128 * sevens c) small)))
-      | inr large ↦ large
+    large : last ≤ b % 128 + 128 * run_magnitude last (c ∷ d)
+    large = elim (cases_lt (b % 128 + 128 * run_magnitude last (c ∷ d)) last) [
+      | inl less ↦ absurd (omega (arith, short, ap length (vbe-small last (run_sign last (c ∷ d)) (b % 128 + 128 * run_magnitude last (c ∷ d)) less)))
+      | inr more ↦ more
     ]
+
+-- the sign of a run is one that its width has
+run-signed : (last : ℕ) (run : List ℕ) → Width last → length run ≡ suc (high_run run) → Sign last (run_sign last run)
+run-signed last [] width one = plain
+run-signed last (b ∷ []) width one = elim (cases_lt b 128) [
+  | inl low ↦ last-sign last b width low
+  | inr high ↦ absurd (omega (arith, high_run-high b [] high, one))
+]
+run-signed last (b ∷ c ∷ d) width one = elim (cases_lt b 128) [
+  | inl low ↦ absurd (omega (arith, high_run-low b (c ∷ d) low, one))
+  | inr high ↦ run-signed last (c ∷ d) width (omega (arith, high_run-high b (c ∷ d) high, one))
+]
 
 -- what is taken of bytes is bytes
 take-bytes : (k : ℕ) (bytes : List ℕ) → IsBytes bytes → IsBytes (take k bytes)
@@ -128,6 +191,43 @@ take-bytes k bytes small i =
       | inl lt ↦ rw (get_or-take k bytes i 0 lt) (small i)
       | inr le ↦ rw (get_or_past (take k bytes) i 0 (omega (arith, length-take k bytes))) (omega arith)
     ]
+
+-- what a number that was found is
+record IsVbeFront (last : ℕ) (bytes : List ℕ) (sign m size : ℕ) : Type 0 where
+  within : size ≤ length bytes
+  fits : m < 2 ^ 63
+  signed : Sign last sign
+  positive : (nat_lt 0 m || sign == 0) ≡ true
+  spelled : IsVbe last sign m (take size bytes)
+
+vbe_front-found : (last : ℕ) (bytes : List ℕ) (sign m size : ℕ) → Width last → IsBytes bytes → vbe_front last bytes ≡ Ok ((sign, m), size) → IsVbeFront last bytes sign m size
+unfolding vbe_front
+vbe_front-found last bytes sign m size width small e =
+    let ended = bind_ok _ _ _ e in
+    let narrow = bind_ok _ _ _ ended.2 in
+    let positive = bind_ok _ _ _ narrow.2 in
+    let short = bind_ok _ _ _ positive.2 in
+    let r = run_from bytes (2 ^ 63) (run_magnitude last (first_run bytes)) (require_ok _ _ _ ended.1) (require_ok _ _ _ narrow.1) in
+    let least = leb-true (run_size bytes) (length (vbe last (run_sign last (first_run bytes)) (run_magnitude last (first_run bytes)))) (require_ok _ _ _ short.1) in
+    let count = length-first_run bytes r.whole in
+    let one : length (first_run bytes) ≡ suc (high_run (first_run bytes)) = omega (arith, count, high_run-first_run bytes r.whole) in
+    let pair = ok_is ((run_sign last (first_run bytes), run_magnitude last (first_run bytes)), run_size bytes) ((sign, m), size) short.2 in
+    subst (λ (p : (ℕ × ℕ) × ℕ). IsVbeFront last bytes p.0.0 p.0.1 p.1) pair
+    record {
+      within = omega (arith, r.whole);
+      fits = r.fits;
+      signed = run-signed last (first_run bytes) width one;
+      positive = require_ok _ _ _ positive.1;
+      spelled = run-spells last (first_run bytes) width (take-bytes (run_size bytes) bytes small) one (omega (arith, count, least));
+    }
+
+-- ---- unsigned and signed
+
+pub unsigned_front-again : (n : ℕ) (rest : List ℕ) → n < 2 ^ 63 → unsigned_front (vbe_unsigned n ++ rest) ≡ Ok (n, length (vbe_unsigned n))
+unfolding unsigned_front
+unsigned_front-again n rest fits =
+    let few = length-vbe_unsigned-63 n fits in
+    rw (vbe_front-again 128 0 n rest seven plain (omega (arith, few)) fits (or_right (nat_lt 0 n) true refl)) refl
 
 -- what an unsigned number that was found is
 pub record IsUnsignedFront (n size : ℕ) (bytes : List ℕ) : Type 0 where
@@ -138,98 +238,22 @@ pub record IsUnsignedFront (n size : ℕ) (bytes : List ℕ) : Type 0 where
 pub unsigned_front-found : (bytes : List ℕ) (n size : ℕ) → IsBytes bytes → unsigned_front bytes ≡ Ok (n, size) → IsUnsignedFront n size bytes
 unfolding unsigned_front
 unsigned_front-found bytes n size small e =
-    let ended = bind_ok _ _ _ e in
-    let narrow = bind_ok _ _ _ ended.2 in
-    let short = bind_ok _ _ _ narrow.2 in
-    let r = run_from bytes (2 ^ 63) (sevens (first_run bytes)) (require_ok _ _ _ ended.1) (require_ok _ _ _ narrow.1) in
-    let least = leb-true (run_size bytes) (length (vbe_unsigned (sevens (first_run bytes)))) (require_ok _ _ _ short.1) in
-    let count = length-first_run bytes r.whole in
-    let one = high_run-first_run bytes r.whole in
-    let pair = ok_is (sevens (first_run bytes), run_size bytes) (n, size) short.2 in
-    subst (λ (p : ℕ × ℕ). IsUnsignedFront p.0 p.1 bytes) pair
-    record {
-      within = omega (arith, r.whole);
-      fits = r.fits;
-      spelled = unsigned-spells (first_run bytes) (take-bytes (run_size bytes) bytes small) (omega (arith, count, one)) (omega (arith, count, least));
-    }
+    let (found, read, last) = bind_ok (vbe_front 128 bytes) (λ (f : (ℕ × ℕ) × ℕ). Ok (f.0.1, f.1)) (n, size) e in
+    let is = vbe_front-found 128 bytes found.0.0 found.0.1 found.1 seven small read in
+    subst (λ (p : ℕ × ℕ). IsUnsignedFront p.0 p.1 bytes) (ok_is (found.0.1, found.1) (n, size) last)
+    record { within = is.within; fits = is.fits; spelled = unsigned_part found.0.0 found.0.1 (take found.1 bytes) is.signed is.spelled }
+  where
+    no_sign : (last sign m : ℕ) (b : List ℕ) → Sign last sign → last ≡ 128 → IsVbe last sign m b → IsVbe last 0 m b
+    no_sign last sign m b plain e h = h
+    no_sign last sign m b minus e h = absurd (omega (arith, e))
 
--- ---- signed VBE numbers
-
--- a run under a sign
-pub record IsSignedRun (m s : ℕ) (bytes : List ℕ) : Type 0 where
-  pub run : length bytes ≡ suc (high_run bytes)
-  pub magnitude : sixes bytes ≡ m
-  pub sign : run_sign bytes ≡ s
-
-pub signed_run : (m s : ℕ) (bytes : List ℕ) → s ≤ 1 → IsVbeMagnitude m s bytes → IsSignedRun m s bytes
-signed_run m s [] one h = absurd h
-signed_run m s (b ∷ []) one (inl h) =
-    let low : b < 128 = omega (arith, h.0, h.1, one) in
-    let e = high_run-low b [] low in
-    record { run = omega (arith, e); magnitude = omega (arith, h.0, h.1, one); sign = omega (arith, h.0, h.1, one) }
-signed_run m s (b ∷ c ∷ d) one (inl h) = cc h.2
-signed_run m s (b ∷ []) one (inr h) = absurd h.2
-signed_run m s (b ∷ c ∷ d) one (inr h) =
-    let high : 128 ≤ b = omega (arith, h.1) in
-    let e = high_run-high b (c ∷ d) high in
-    let rest = signed_run (m / 128) s (c ∷ d) one h.2 in
-    record { run = omega (arith, e, rest.run); magnitude = omega (arith, h.1, rest.magnitude); sign = rest.sign }
-
-signed-passes : (bytes : List ℕ) (m s : ℕ) → sixes (first_run bytes) ≡ m → run_sign (first_run bytes) ≡ s → high_run bytes < length bytes → high_run bytes < 10 → m < 2 ^ 63 → s ≤ m → run_size bytes ≤ length (vbe_magnitude m s) → signed_front bytes ≡ Ok (with_sign m s, run_size bytes)
-unfolding signed_front
-signed-passes bytes m s em es whole few fits positive short = rw (em, es, has_end-run bytes whole, is_narrow-run bytes (2 ^ 63) m few fits, le-leb s m positive, le-leb (run_size bytes) (length (vbe_magnitude m s)) short) refl
-
-magnitude-again : (m s : ℕ) (rest : List ℕ) → m < 2 ^ 63 → s ≤ 1 → s ≤ m → signed_front (vbe_magnitude m s ++ rest) ≡ Ok (with_sign m s, length (vbe_magnitude m s))
-magnitude-again m s rest fits one positive =
-    let r = signed_run m s (vbe_magnitude m s) one (vbe_magnitude-is m s) in
-    let a = alone (vbe_magnitude m s) rest r.run in
-    let few = length-vbe_magnitude-63 m s fits in
-    signed-passes (vbe_magnitude m s ++ rest) m s (ap sixes a.front ∙ r.magnitude) (ap run_sign a.front ∙ r.sign) a.whole (omega (arith, a.count, r.run, few)) fits positive (omega (arith, a.count, r.run))
-    ∙ (rw (a.count, r.run) refl)
+    unsigned_part : (sign m : ℕ) (b : List ℕ) → Sign 128 sign → IsVbe 128 sign m b → IsVbe 128 0 m b
+    unsigned_part sign m b s h = no_sign 128 sign m b s refl h
 
 pub signed_front-again : (z : ℤ) (rest : List ℕ) → nat_abs z < 2 ^ 63 → signed_front (vbe_signed z ++ rest) ≡ Ok (z, length (vbe_signed z))
-signed_front-again (pos m) rest fits = magnitude-again m 0 rest fits (omega arith) (omega arith)
-signed_front-again (negsuc m) rest fits = magnitude-again (suc m) 1 rest fits (omega arith) (omega arith)
-
-run_sign-le : (bytes : List ℕ) → run_sign bytes ≤ 1
-run_sign-le [] = omega arith
-run_sign-le (b ∷ []) = omega arith
-run_sign-le (b ∷ c ∷ d) = run_sign-le (c ∷ d)
-
--- one run that no shorter spelling has is the spelling of its magnitude under its sign
-magnitude-spells : (run : List ℕ) → IsBytes run → length run ≡ suc (high_run run) → length run ≤ length (vbe_magnitude (sixes run) (run_sign run)) → IsVbeMagnitude (sixes run) (run_sign run) run
-magnitude-spells [] small one short = absurd (omega (arith, one))
-magnitude-spells (b ∷ []) small one short =
-    elim (cases_lt b 128) [
-      | inl low ↦ inl (omega arith, omega (arith, low), refl)
-      | inr high ↦ absurd (omega (arith, high_run-high b [] high, one))
-    ]
-magnitude-spells (b ∷ c ∷ d) small one short =
-    elim (cases_lt b 128) [
-      | inl low ↦ absurd (omega (arith, high_run-low b (c ∷ d) low, one))
-      | inr high ↦
-          let run : length (c ∷ d) ≡ suc (high_run (c ∷ d)) = omega (arith, high_run-high b (c ∷ d) high, one) in
-          let rest : (b % 128 + 128 * sixes (c ∷ d)) / 128 ≡ sixes (c ∷ d) = omega arith in
-          let spelt = vbe_magnitude-more (b % 128 + 128 * sixes (c ∷ d)) (run_sign (c ∷ d)) large in
-          let shorter : length (c ∷ d) ≤ length (vbe_magnitude (sixes (c ∷ d)) (run_sign (c ∷ d))) = omega (arith, short, ap length spelt, ap (λ k. length (vbe_magnitude k (run_sign (c ∷ d)))) rest) in
-          inr (large, omega (arith, small 0, high), rw rest (magnitude-spells (c ∷ d) (λ i. small (suc i)) run shorter))
-    ]
-  where
-    large : 64 ≤ b % 128 + 128 * sixes (c ∷ d)
-    large = elim (cases_lt (b % 128 + 128 * sixes (c ∷ d)) 64) [
-      | inl less ↦ absurd (omega (arith, short, ap length (vbe_magnitude-small (b % 128 + 128 * sixes (c ∷ d)) (run_sign (c ∷ d)) less)))
-      | inr more ↦ more
-    ]
-
-spells-signed : (m s : ℕ) (bytes : List ℕ) → s ≤ 1 → s ≤ m → IsVbeMagnitude m s bytes → IsVbeSigned (with_sign m s) bytes
-spells-signed m zero bytes one positive h = h
-spells-signed zero (suc s) bytes one positive h = absurd (omega (arith, positive))
-spells-signed (suc m) (suc s) bytes one positive h = let last : s ≡ 0 = omega (arith, one) in rw last at h
-
-abs-with_sign : (m s : ℕ) → nat_abs (with_sign m s) ≡ m
-abs-with_sign m zero = refl
-abs-with_sign zero (suc s) = refl
-abs-with_sign (suc m) (suc s) = refl
+unfolding signed_front
+signed_front-again (pos m) rest fits = rw (vbe_front-again 64 0 m rest six plain (length-vbe_signed-63 0 m fits) fits (or_right (nat_lt 0 m) true refl)) refl
+signed_front-again (negsuc m) rest fits = rw (vbe_front-again 64 64 (suc m) rest six minus (length-vbe_signed-63 64 (suc m) fits) fits (or_left (nat_lt 0 (suc m)) (64 == 0) (lt-ltb 0 (suc m) (omega arith)))) refl
 
 -- what a signed number that was found is
 pub record IsSignedFront (z : ℤ) (size : ℕ) (bytes : List ℕ) : Type 0 where
@@ -237,38 +261,34 @@ pub record IsSignedFront (z : ℤ) (size : ℕ) (bytes : List ℕ) : Type 0 wher
   pub fits : nat_abs z < 2 ^ 63
   pub spelled : IsVbeSigned z (take size bytes)
 
+signed_part : (last sign m size : ℕ) (bytes : List ℕ) → last ≡ 64 → Sign last sign → (nat_lt 0 m || sign == 0) ≡ true → size ≤ length bytes → m < 2 ^ 63 → IsVbe last sign m (take size bytes) → IsSignedFront (with_sign (sign, m)) size bytes
+signed_part last sign m size bytes e plain positive within fits h = record { within = within; fits = fits; spelled = subst (λ k. IsVbe k 0 m (take size bytes)) e h }
+signed_part last sign zero size bytes e minus positive within fits h = absurd (cc positive)
+signed_part last sign (suc m) size bytes e minus positive within fits h = record { within = within; fits = fits; spelled = h }
+
 pub signed_front-found : (bytes : List ℕ) (z : ℤ) (size : ℕ) → IsBytes bytes → signed_front bytes ≡ Ok (z, size) → IsSignedFront z size bytes
 unfolding signed_front
 signed_front-found bytes z size small e =
-    let m = sixes (first_run bytes) in
-    let s = run_sign (first_run bytes) in
-    let ended = bind_ok _ _ _ e in
-    let narrow = bind_ok _ _ _ ended.2 in
-    let positive = bind_ok _ _ _ narrow.2 in
-    let short = bind_ok _ _ _ positive.2 in
-    let r = run_from bytes (2 ^ 63) (sixes (first_run bytes)) (require_ok _ _ _ ended.1) (require_ok _ _ _ narrow.1) in
-    let signed = leb-true (run_sign (first_run bytes)) (sixes (first_run bytes)) (require_ok _ _ _ positive.1) in
-    let least = leb-true (run_size bytes) (length (vbe_magnitude (sixes (first_run bytes)) (run_sign (first_run bytes)))) (require_ok _ _ _ short.1) in
-    let count = length-first_run bytes r.whole in
-    let one = high_run-first_run bytes r.whole in
-    let pair = ok_is (with_sign (sixes (first_run bytes)) (run_sign (first_run bytes)), run_size bytes) (z, size) short.2 in
-    let spelt = magnitude-spells (first_run bytes) (take-bytes (run_size bytes) bytes small) (omega (arith, count, one)) (omega (arith, count, least)) in
-    subst (λ (p : ℤ × ℕ). IsSignedFront p.0 p.1 bytes) pair
-    record {
-      within = omega (arith, r.whole);
-      fits = rw (abs-with_sign (sixes (first_run bytes)) (run_sign (first_run bytes))) r.fits;
-      spelled = spells-signed (sixes (first_run bytes)) (run_sign (first_run bytes)) (first_run bytes) (run_sign-le (first_run bytes)) signed spelt;
-    }
+    let (found, read, last) = bind_ok (vbe_front 64 bytes) (λ (f : (ℕ × ℕ) × ℕ). Ok (with_sign f.0, f.1)) (z, size) e in
+    let is = vbe_front-found 64 bytes found.0.0 found.0.1 found.1 six small read in
+    subst (λ (p : ℤ × ℕ). IsSignedFront p.0 p.1 bytes) (ok_is (with_sign found.0, found.1) (z, size) last)
+    (signed_part 64 found.0.0 found.0.1 found.1 bytes refl is.signed is.positive is.within is.fits is.spelled)
 
 -- ---- spellings and readings, as the laws have them
 
+pub vbe_unsigned-only : (n : ℕ) (b : List ℕ) → IsVbeUnsigned n b → b ≡ vbe_unsigned n
+vbe_unsigned-only n b h = vbe-only 128 0 n b (omega arith) h
+
+pub vbe_unsigned-is : (n : ℕ) → IsVbeUnsigned n (vbe_unsigned n)
+vbe_unsigned-is n = vbe-is 128 0 n (omega arith)
+
 pub vbe_signed-only : (z : ℤ) (b : List ℕ) → IsVbeSigned z b → b ≡ vbe_signed z
-vbe_signed-only (pos m) b h = vbe_magnitude-only m 0 b h
-vbe_signed-only (negsuc m) b h = vbe_magnitude-only (suc m) 1 b h
+vbe_signed-only (pos m) b h = vbe-only 64 0 m b (omega arith) h
+vbe_signed-only (negsuc m) b h = vbe-only 64 64 (suc m) b (omega arith) h
 
 pub vbe_signed-is : (z : ℤ) → IsVbeSigned z (vbe_signed z)
-vbe_signed-is (pos m) = vbe_magnitude-is m 0
-vbe_signed-is (negsuc m) = vbe_magnitude-is (suc m) 1
+vbe_signed-is (pos m) = vbe-is 64 0 m (omega arith)
+vbe_signed-is (negsuc m) = vbe-is 64 64 (suc m) (omega arith)
 
 pub unsigned_reads : (n : ℕ) (b rest : List ℕ) → n < 2 ^ 63 → IsVbeUnsigned n b → unsigned_front (b ++ rest) ≡ Ok (n, length b)
 unsigned_reads n b rest fits h = rw (vbe_unsigned-only n b h) (unsigned_front-again n rest fits)

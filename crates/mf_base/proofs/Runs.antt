@@ -2,30 +2,13 @@
 use Rattle.std.proofs.Common.{◌≡◌, ℕ, suc, ◌/◌, ◌<◌, ◌≤◌, List, [], ◌∷◌, ◌++◌, length, take, refl, sym, ap, ◌∙◌, arith, inl, inr}
 use Rattle.std.proofs.lemmas.Bool.{cases_lt, lt-ltb, le-ltb}
 use Rattle.std.proofs.lemmas.List.{take_at, length-take}
-use Rattle.mf_base.specs.Spelling.{IsVbeUnsigned, high_run, sevens, first_run}
+use Rattle.mf_base.specs.Spelling.{high_run, first_run}
 
 pub high_run-low : (b : ℕ) (c : List ℕ) → b < 128 → high_run (b ∷ c) ≡ 0
 high_run-low b c low = rw (lt-ltb b 128 low) refl
 
 pub high_run-high : (b : ℕ) (c : List ℕ) → 128 ≤ b → high_run (b ∷ c) ≡ suc (high_run c)
 high_run-high b c high = rw (le-ltb b 128 high) refl
-
--- the bytes are one run of this number
-pub record IsRead (n : ℕ) (bytes : List ℕ) : Type 0 where
-  pub run : length bytes ≡ suc (high_run bytes)
-  pub value : sevens bytes ≡ n
-
-pub reads : (n : ℕ) (bytes : List ℕ) → IsVbeUnsigned n bytes → IsRead n bytes
-reads n [] h = absurd h
-reads n (b ∷ c) (inl h) =
-    let e = high_run-low b [] (omega (arith, h.0, h.1)) in
-    rw h.2 (record { run = omega (arith, e); value = omega (arith, h.0, h.1) })
-reads n (b ∷ c) (inr h) =
-    let e = high_run-high b c (omega (arith, h.1)) in
-    let rest = reads (n / 128) c h.2 in
-    record { run = omega (arith, e, rest.run); value = omega (arith, h.0, h.1, rest.value) }
-
--- ---- what follows a run
 
 pub high_run-append : (bytes rest : List ℕ) → length bytes ≡ suc (high_run bytes) → high_run (bytes ++ rest) ≡ high_run bytes
 high_run-append [] rest run = absurd (omega arith)

@@ -4,6 +4,7 @@ ghost use Rattle.std.specs.Prelude.{◌≡◌, ◌^◌, ◌*◌, ◌-◌, map, S
 ghost use Rattle.mf_base.specs.Spelling.{vbe_unsigned, vbe_signed, string, big_endian, zigzag_of, unzigzag_of};
 ghost use Rattle.mf_base.specs.NumberReading.{varint_front, unsigned_front, signed_front};
 ghost use Rattle.mf_base.specs.Ranges.{is_signed_32, is_signed_64, is_latitude, is_longitude, is_rect};
+ghost use Rattle.mf_base.specs.Texts.{cut, cut_last, has_text};
 ghost use Rattle.mf_base.specs.Tags.{value_of, text_of, present_text, readable_text};
 ghost use Rattle.mf_base.specs.Numbers.{whole_number, height, zoom_number, whole_in, number_in};
 ghost use Rattle.mf_base.specs.Words.{words_keep, word_of, names_in};
@@ -78,8 +79,18 @@ pub fn numbers_of_words()
     ensures zooms { map zoom_number (codes "5" ∷ codes "21" ∷ codes "22" ∷ codes "00000000000000000005" ∷ codes "000000000000000000005" ∷ codes "-0" ∷ codes "" ∷ [])
         ≡ Some 5 ∷ Some 21 ∷ None ∷ Some 5 ∷ None ∷ None ∷ None ∷ [] }
     ensures seed { map (number_in 0 (2 ^ 64 - 1)) (codes "18446744073709551615" ∷ codes "18446744073709551616" ∷ []) ≡ Some 18446744073709551615 ∷ None ∷ [] }
+    ensures unsigned { map (whole_in (pos 0) (pos 99)) (codes "00000000000000000007" ∷ codes "000000000000000000007" ∷ codes "-7" ∷ codes "100" ∷ []) ≡ Some (pos 7) ∷ None ∷ None ∷ None ∷ [] }
     ensures no_sign { map (number_in 0 9) (codes "-1" ∷ codes "9" ∷ codes "10" ∷ []) ≡ None ∷ Some 9 ∷ None ∷ [] }
     ensures signed { map (whole_in (negsuc 89999999) (pos 90000000)) (codes "-90000000" ∷ codes "-90000001" ∷ codes "-0" ∷ codes "90000001" ∷ codes "-" ∷ codes "-00000000000000000001" ∷ codes "-000000000000000000001" ∷ []) ≡ Some (negsuc 89999999) ∷ None ∷ Some (pos 0) ∷ None ∷ None ∷ Some (negsuc 0) ∷ None ∷ [] }
+{}
+
+/// Where a text is cut, and what it has.
+#[tactic(auto, unfolding(crate::proofs::Compute::compute))]
+pub fn texts_cut()
+    ensures first { cut 64 (codes "a@b@c") ≡ Some (codes "a", codes "b@c") }
+    ensures last { cut_last 64 (codes "a@b@c") ≡ Some (codes "a@b", codes "c") }
+    ensures none { map (cut_last 64) (codes "abc" ∷ [] ∷ []) ≡ None ∷ None ∷ [] }
+    ensures part { map (has_text (codes ":colour")) (codes "roof:colour" ∷ codes "a:colour:b" ∷ codes "colour" ∷ codes ":colou" ∷ []) ≡ true ∷ true ∷ false ∷ false ∷ [] }
 {}
 
 /// The first pair of a key counts, and a text of 1,021 bytes counts as absent.

@@ -1,4 +1,4 @@
-use Rattle.mf_base.proofs.Vbe.{vbe_unsigned-only, vbe_unsigned-is}
+use Rattle.mf_base.proofs.NumberLemmas.{vbe_unsigned-only, vbe_unsigned-is}
 use Rattle.mf_base.proofs.laws.one_unsigned_spelling.Goals as goal
 
 pub returns-clause-only : goal.returns-clause-only
