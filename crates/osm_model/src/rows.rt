@@ -1,13 +1,13 @@
 //! Worked inputs, and what they spell.
 
-ghost use Rattle.std.specs.Prelude.{◌≡◌, [], ◌∷◌, ◌++◌, take, length, replicate, codes, pos, negsuc, ◌^◌};
-ghost use Rattle.osm_model.specs.Wire.{kind_fault, varint_fault};
-ghost use Rattle.osm_model.specs.Tables.{wire};
-ghost use Rattle.osm_model.specs.Frames.{frame_front, too_long, truncated, header_length, header_wire, no_type, no_size, blob_size, compressed, no_data, raw_size};
-ghost use Rattle.osm_model.specs.Blocks.{bad_box, required_feature, no_strings, not_text};
-ghost use Rattle.osm_model.specs.Objects.{mixed_group, columns, missing, range, kind_order, out_of_order, coordinate, key_without_value, string_index, member_kind};
-ghost use Rattle.osm_model.specs.Input.{input_fault, input_entities, input_box};
-ghost use Rattle.osm_model.specs.Rows.{one_bench, bench, one_degree, header_alone, data_blob, zlib_blob, plain_group, way_group, node_group, twice_five, with_byte, dense_three, dense_three_entities, ways_and_relation, ways_and_relation_entities, in_frame, in_block, in_entity};
+ghost use Rattle.std.specs.Prelude.{◌≡◌, [], ◌∷◌, ◌++◌, ◌-◌, ◌^◌, take, length, replicate, codes, pos, negsuc, Ok, Err};
+ghost use Rattle.osm_model.specs.Wire.{kind_fault, varint_fault, length_fault};
+ghost use Rattle.osm_model.specs.Tables.{MessageFault, form, twice};
+ghost use Rattle.osm_model.specs.Frames.{header, frames, next_known, frame_front, too_long, truncated, header_length, header_wire, no_type, no_size, blob_size, compressed, no_data, raw_size};
+ghost use Rattle.osm_model.specs.Blocks.{BlockFault, bad_box, required_feature, no_strings, not_text};
+ghost use Rattle.osm_model.specs.Objects.{EntityFault, mixed_group, columns, missing, range, kind_order, out_of_order, coordinate, key_without_value, string_index, member_kind};
+ghost use Rattle.osm_model.specs.Input.{input_fault, input_entities, input_box, known_box};
+ghost use Rattle.osm_model.specs.Samples.{hex, part, blob_of, header_blob, raw_blob, strings_of, least_number, half_of_range, in_frame, in_block, in_entity, at, at_zero, square, one_degree, node_at, way_of, header_raw, header_alone, data_blob, one_bench, with_byte, bench_tags, bench, bench_texts, plain_group, node_group, way_group, twice_five, bench_with_name, dense_three, dense_three_entities, ways_and_relation, ways_and_relation_entities, missing_node, missing_node_entities, ring_of_three_ways, forest_entities, water_tile, water_tile_entities, fault_before_limit};
 
 /// One bench, and a box of one degree each way.
 #[tactic(auto, unfolding(crate::proofs::Compute::compute))]
@@ -16,16 +16,20 @@ pub fn one_bench_row()
     ensures accepted { input_fault one_bench ≡ None }
     ensures entities { input_entities one_bench ≡ bench 1 ∷ [] }
     ensures bounds { input_box one_bench ≡ Some one_degree }
+    ensures box_of_the_words { known_box (Some (square 10)) one_bench ≡ Some (square 10) }
+    ensures box_of_the_input { known_box None one_bench ≡ Some one_degree }
+    ensures spelled { one_bench ≡ hex "00 00 00 0D 0A 09" ++ codes "OSMHeader" ++ hex "18 38 0A 36" ++ header_raw ++ hex "00 00 00 0B 0A 07" ++ codes "OSMData" ++ hex "18 28 0A 26 0A 12 0A 00 0A 07" ++ codes "amenity" ++ hex "0A 05" ++ codes "bench" ++ hex "12 10 12 0E 0A 01 02 42 01 00 4A 01 00 52 03 01 02 00" }
 {}
 
 /// A header blob alone, and an input of nothing.
 #[tactic(auto, unfolding(crate::proofs::Compute::compute))]
 pub fn header_alone_row()
     ensures front { take 73 one_bench ≡ header_alone }
-    ensures accepted { input_fault (take 73 one_bench) ≡ None }
-    ensures entities { input_entities (take 73 one_bench) ≡ [] }
-    ensures bounds { input_box (take 73 one_bench) ≡ Some one_degree }
+    ensures accepted { input_fault header_alone ≡ None }
+    ensures entities { input_entities header_alone ≡ [] }
+    ensures bounds { input_box header_alone ≡ Some one_degree }
     ensures empty_input { input_fault [] ≡ None }
+    ensures empty_input_entities { input_entities [] ≡ [] }
     ensures empty_input_box { input_box [] ≡ None }
 {}
 
@@ -34,66 +38,146 @@ pub fn header_alone_row()
 pub fn cut_and_compressed_rows()
     ensures cut_in_a_length { input_fault (take 76 one_bench) ≡ in_frame 73 (truncated 3) }
     ensures cut_in_a_length_entities { input_entities (take 76 one_bench) ≡ [] }
-    ensures compressed_blob { input_fault (one_bench ++ zlib_blob) ≡ in_frame 128 (compressed 3) }
-    ensures compressed_blob_entities { input_entities (one_bench ++ zlib_blob) ≡ bench 1 ∷ [] }
+    ensures compressed_blob { input_fault (one_bench ++ blob_of "OSMData" (part 3 [])) ≡ in_frame 128 (compressed 3) }
+    ensures compressed_blob_entities { input_entities (one_bench ++ blob_of "OSMData" (part 3 [])) ≡ bench 1 ∷ [] }
+    ensures first_compressed { input_fault (blob_of "OSMData" (part 4 [] ++ part 3 [])) ≡ in_frame 0 (compressed 4) }
+    ensures last_compressed { input_fault (blob_of "OSMData" (part 7 [])) ≡ in_frame 0 (compressed 7) }
+    ensures first_known { next_known (frames (take 76 one_bench)) ≡ Ok (Some (record { at = 0; content = header header_raw })) }
+    ensures first_cut { next_known (frames (hex "00")) ≡ Err (record { at = 0; fault = truncated 1 }) }
 {}
 
-/// A plain node, a node behind a way, and an id that comes twice.
+/// Why a BlobHeader is refused.
+#[tactic(auto, unfolding(crate::proofs::Compute::compute))]
+pub fn blob_header_rows()
+    ensures long_header { input_fault (hex "00 01 00 00") ≡ in_frame 0 header_length }
+    ensures longest_header { input_fault (hex "00 00 FF FF") ≡ in_frame 0 (truncated 0) }
+    ensures cut_type { input_fault (hex "00 00 00 02 0A 05") ≡ in_frame 0 (header_wire (MessageFault.wire length_fault)) }
+    ensures bad_type { input_fault (hex "00 00 00 01 0B") ≡ in_frame 0 (header_wire (MessageFault.wire kind_fault)) }
+    ensures number_zero { input_fault (hex "00 00 00 02 00 80") ≡ in_frame 0 (header_wire (MessageFault.wire kind_fault)) }
+    ensures bad_form { input_fault (hex "00 00 00 03 08 00 80") ≡ in_frame 0 (header_wire (form 1)) }
+    ensures bad_varint { input_fault (hex "00 00 00 0B 18" ++ replicate 9 0x80 ++ hex "02") ≡ in_frame 0 (header_wire (MessageFault.wire varint_fault)) }
+    ensures last_size { input_fault (hex "00 00 00 08 0A 01 58 18 FF 01 18 00") ≡ None }
+    ensures no_header { input_fault (hex "00 00 00 00") ≡ in_frame 0 no_type }
+    ensures untyped { input_fault (hex "00 00 00 02 18 00") ≡ in_frame 0 no_type }
+    ensures no_datasize { input_fault (hex "00 00 00 03 0A 01 78") ≡ in_frame 0 no_size }
+    ensures largest_blob { input_fault (hex "00 00 00 08 0A 01 58 18 80 80 80 10") ≡ in_frame 0 (truncated 0) }
+    ensures larger_blob { input_fault (hex "00 00 00 08 0A 01 58 18 81 80 80 10") ≡ in_frame 0 blob_size }
+    ensures endless { input_fault (hex "00 00 00 16" ++ part 1 (codes "OSMHeader") ++ hex "18" ++ replicate 9 0xFF ++ hex "01") ≡ in_frame 0 blob_size }
+    ensures cut_blob { input_fault (hex "00 00 00 05 0A 01 58 18 05 00 00 00") ≡ in_frame 0 (truncated 3) }
+    ensures nearest { frame_front (2 ^ 62 - 1) header_alone ≡ Ok (header header_raw, 73) }
+    ensures far { frame_front (2 ^ 62) header_alone ≡ Err too_long }
+{}
+
+/// Why a Blob is refused.
+#[tactic(auto, unfolding(crate::proofs::Compute::compute))]
+pub fn blob_rows()
+    ensures no_raw { input_fault (blob_of "OSMData" []) ≡ in_frame 0 no_data }
+    ensures wrong_size { input_fault (blob_of "OSMData" (part 1 (hex "0A 00") ++ hex "10 09")) ≡ in_frame 0 (raw_size 9 2) }
+{}
+
+/// The box and the required features of a header.
+#[tactic(auto, unfolding(crate::proofs::Compute::compute))]
+pub fn header_block_rows()
+    ensures no_box { input_fault (header_blob []) ≡ None }
+    ensures no_box_told { input_box (header_blob []) ≡ None }
+    ensures zero_box { input_fault (header_blob (part 1 (hex "08 00 10 00 18 00 20 00"))) ≡ None }
+    ensures zero_box_told { input_box (header_blob (part 1 (hex "08 00 10 00 18 00 20 00"))) ≡ Some (square 0) }
+    ensures first_box { input_box (header_blob (part 1 (hex "08 00 10 00 18 00 20 00")) ++ header_alone) ≡ Some (square 0) }
+    ensures no_sides { input_fault (header_blob (part 1 [] ++ part 4 (codes "x"))) ≡ in_block 0 bad_box }
+    ensures wrong_box { input_fault (header_blob (part 1 (hex "08 0A 10 08 18 04 20 04"))) ≡ in_block 0 bad_box }
+    ensures two_boxes { input_fault (header_blob (part 1 [] ++ part 1 [])) ≡ in_block 0 (BlockFault.wire (twice 1)) }
+    ensures feature { input_fault (with_byte 60 0x37) ≡ in_block 0 required_feature }
+{}
+
+/// The head of a block.
+#[tactic(auto, unfolding(crate::proofs::Compute::compute))]
+pub fn block_rows()
+    ensures untold { input_fault (raw_blob []) ≡ in_block 0 no_strings }
+    ensures cut_field { input_fault (raw_blob (hex "12")) ≡ in_block 0 (BlockFault.wire (MessageFault.wire varint_fault)) }
+    ensures text { input_fault (with_byte 96 0xFF) ≡ in_block 73 (not_text 1) }
+{}
+
+/// The order of kinds, and of ids within a kind.
 #[tactic(auto, unfolding(crate::proofs::Compute::compute))]
 pub fn order_rows()
-    ensures plain_node { input_fault (header_alone ++ data_blob 14 plain_group) ≡ None }
-    ensures plain_node_entities { input_entities (header_alone ++ data_blob 14 plain_group) ≡ bench 1 ∷ [] }
-    ensures node_after_way { input_fault (header_alone ++ data_blob 4 way_group ++ data_blob 8 node_group) ≡ in_entity 116 kind_order }
-    ensures id_twice { input_fault (header_alone ++ data_blob 14 twice_five) ≡ in_entity 73 (out_of_order 5 (pos 5)) }
-{}
-
-/// Inputs that are refused in their first blob.
-#[tactic(auto, unfolding(crate::proofs::Compute::compute))]
-pub fn malicious_frame_rows()
-    ensures long_header { input_fault (0x00 ∷ 0x01 ∷ 0x00 ∷ 0x00 ∷ []) ≡ in_frame 0 header_length }
-    ensures bad_type { input_fault (0x00 ∷ 0x00 ∷ 0x00 ∷ 0x01 ∷ 0x0B ∷ []) ≡ in_frame 0 (header_wire (wire kind_fault)) }
-    ensures bad_varint { input_fault ((0x00 ∷ 0x00 ∷ 0x00 ∷ 0x0B ∷ 0x18 ∷ []) ++ replicate 9 0x80 ++ (0x02 ∷ [])) ≡ in_frame 0 (header_wire (wire varint_fault)) }
-    ensures untyped { input_fault (0x00 ∷ 0x00 ∷ 0x00 ∷ 0x02 ∷ 0x18 ∷ 0x00 ∷ []) ≡ in_frame 0 no_type }
-    ensures endless { input_fault ((0x00 ∷ 0x00 ∷ 0x00 ∷ 0x16 ∷ 0x0A ∷ 0x09 ∷ []) ++ codes "OSMHeader" ++ (0x18 ∷ []) ++ replicate 9 0xFF ++ (0x01 ∷ [])) ≡ in_frame 0 blob_size }
-    ensures cut_blob { input_fault (0x00 ∷ 0x00 ∷ 0x00 ∷ 0x05 ∷ 0x0A ∷ 0x01 ∷ 0x58 ∷ 0x18 ∷ 0x05 ∷ 0x00 ∷ 0x00 ∷ 0x00 ∷ []) ≡ in_frame 0 (truncated 3) }
-{}
-
-/// The input of one bench with one byte changed.
-#[tactic(auto, unfolding(crate::proofs::Compute::compute))]
-pub fn malicious_block_rows()
-    ensures feature { input_fault (with_byte 60 0x37) ≡ in_block 0 required_feature }
-    ensures text { input_fault (with_byte 96 0xFF) ≡ in_block 73 (not_text 1) }
+    ensures node_after_way { input_fault (header_alone ++ data_blob way_group ++ data_blob node_group) ≡ in_entity 116 kind_order }
+    ensures zero_after_way { input_fault (data_blob way_group ++ data_blob (part 1 (hex "08 00 40 00 48 00"))) ≡ in_entity 43 kind_order }
+    ensures way_after_relation { input_fault (data_blob (part 4 (hex "08 05")) ++ data_blob (part 3 (hex "08 06"))) ≡ in_entity 43 kind_order }
+    ensures id_twice { input_fault (header_alone ++ data_blob twice_five) ≡ in_entity 73 (out_of_order 5 (pos 5)) }
+    ensures way_twice { input_fault (data_blob (part 3 (hex "08 05") ++ part 3 (hex "08 05"))) ≡ in_entity 0 (out_of_order 5 (pos 5)) }
+    ensures relation_falls { input_fault (data_blob (part 4 (hex "08 05") ++ part 4 (hex "08 04"))) ≡ in_entity 0 (out_of_order 5 (pos 4)) }
     ensures id_zero { input_fault (with_byte 116 0x00) ≡ in_entity 73 (out_of_order 0 (pos 0)) }
     ensures id_below { input_fault (with_byte 116 0x01) ≡ in_entity 73 (out_of_order 0 (negsuc 0)) }
-    ensures index { input_fault (with_byte 125 0x03) ≡ in_entity 73 string_index }
-    ensures no_value { input_fault (with_byte 127 0x01) ≡ in_entity 73 key_without_value }
 {}
 
-/// Three dense nodes; two ways, and a relation behind them.
+/// Places: microdegrees of nanodegrees, towards zero.
 #[tactic(auto, unfolding(crate::proofs::Compute::compute))]
-pub fn dense_and_way_rows()
+pub fn place_rows()
+    ensures less_than_one { input_entities (with_byte 119 0x02) ≡ bench 1 ∷ [] }
+    ensures one { input_entities (with_byte 119 0x14) ≡ node_at 1 (at (pos 1) (pos 0)) bench_tags ∷ [] }
+    ensures above_minus_one { input_entities (with_byte 119 0x01) ≡ bench 1 ∷ [] }
+    ensures minus_one { input_entities (with_byte 119 0x13) ≡ node_at 1 (at (negsuc 0) (pos 0)) bench_tags ∷ [] }
+    ensures west { input_entities (data_blob (part 1 (hex "08 02 40 01 48 25"))) ≡ node_at 1 (at (pos 0) (negsuc 0)) [] ∷ [] }
+    ensures corner { input_entities (data_blob (part 1 (hex "08 02 40 80 A4 A7 DA 06 48 FF C7 CE B4 0D"))) ≡ node_at 1 (at (pos 90000000) (negsuc 179999999)) [] ∷ [] }
+    ensures beyond_south { input_fault (data_blob (part 1 (hex "08 02 40 81 A4 A7 DA 06 48 00"))) ≡ in_entity 0 coordinate }
+    ensures beyond_north { input_fault (data_blob (part 1 (hex "08 02 40 82 A4 A7 DA 06 48 00"))) ≡ in_entity 0 coordinate }
+    ensures before_tags { input_fault (data_blob (part 1 (hex "08 02 12 01 01 40 82 A4 A7 DA 06 48 00"))) ≡ in_entity 0 coordinate }
+{}
+
+/// Groups.
+#[tactic(auto, unfolding(crate::proofs::Compute::compute))]
+pub fn group_rows()
+    ensures mixed { input_fault (data_blob (node_group ++ part 3 (hex "08 02 42 00"))) ≡ in_entity 0 mixed_group }
+    ensures changesets_mixed { input_fault (data_blob (part 5 [] ++ way_group)) ≡ in_entity 0 mixed_group }
+    ensures changesets { input_fault (data_blob (part 5 (hex "FF"))) ≡ None }
+    ensures dense_twice { input_fault (data_blob (part 2 (hex "0A 01 02 42 01 00 4A 01 00") ++ part 2 (hex "0A 01 04 42 01 00 4A 01 00"))) ≡ in_entity 0 (EntityFault.wire (twice 2)) }
+    ensures keys_twice { input_fault (data_blob (part 3 (hex "08 01 12 00 12 01 80"))) ≡ in_entity 0 (EntityFault.wire (twice 2)) }
+    ensures no_id { input_fault (data_blob (part 3 (hex "42 00"))) ≡ in_entity 0 missing }
+{}
+
+/// Plain and dense nodes.
+#[tactic(auto, unfolding(crate::proofs::Compute::compute))]
+pub fn node_rows()
+    ensures plain { input_fault (header_alone ++ data_blob plain_group) ≡ None }
+    ensures plain_entities { input_entities (header_alone ++ data_blob plain_group) ≡ bench 1 ∷ [] }
     ensures dense { input_fault dense_three ≡ None }
     ensures dense_entities { input_entities dense_three ≡ dense_three_entities }
-    ensures ways { input_fault ways_and_relation ≡ None }
-    ensures ways_entities { input_entities ways_and_relation ≡ ways_and_relation_entities }
+    ensures left_over { input_fault (data_blob (part 2 (hex "0A 01 04 42 01 02 4A 01 02 52 02 00 00"))) ≡ in_entity 0 columns }
+    ensures unclosed { input_fault (data_blob (part 2 (hex "0A 01 04 42 01 02 4A 01 02 52 02 01 02"))) ≡ in_entity 0 columns }
+    ensures one_run_of_two { input_fault (data_blob (part 2 (hex "0A 02 02 02 42 02 00 00 4A 02 00 00 52 01 00"))) ≡ in_entity 0 columns }
+    ensures few_latitudes { input_fault (data_blob (part 2 (hex "0A 02 04 06 42 01 02 4A 02 02 02"))) ≡ in_entity 0 columns }
+    ensures many_longitudes { input_fault (data_blob (part 2 (hex "0A 01 02 42 01 00 4A 02 00 00"))) ≡ in_entity 0 columns }
+    ensures index { input_fault (with_byte 125 0x03) ≡ in_entity 73 string_index }
+    ensures value_index { input_fault (data_blob (part 2 (hex "0A 01 02 42 01 00 4A 01 00 52 03 01 02 09"))) ≡ in_entity 0 string_index }
+    ensures no_value { input_fault (with_byte 127 0x01) ≡ in_entity 73 key_without_value }
+    ensures wide_latitude { input_fault (raw_blob (strings_of bench_texts ++ part 2 (part 2 (hex "0A 02 02 00 42 14" ++ half_of_range ++ half_of_range ++ hex "4A 02 00 00")) ++ hex "88 01 00")) ≡ in_entity 0 range }
 {}
 
-/// One input for each cause that the rows above do not have.
+/// Ways and relations.
 #[tactic(auto, unfolding(crate::proofs::Compute::compute))]
-pub fn fault_rows()
-    ensures mixed { input_fault (0x00 ∷ 0x00 ∷ 0x00 ∷ 0x0B ∷ 0x0A ∷ 0x07 ∷ 0x4F ∷ 0x53 ∷ 0x4D ∷ 0x44 ∷ 0x61 ∷ 0x74 ∷ 0x61 ∷ 0x18 ∷ 0x21 ∷ 0x0A ∷ 0x1F ∷ 0x0A ∷ 0x0D ∷ 0x0A ∷ 0x00 ∷ 0x0A ∷ 0x01 ∷ 0x6B ∷ 0x0A ∷ 0x02 ∷ 0xC3 ∷ 0xA9 ∷ 0x0A ∷ 0x02 ∷ 0x76 ∷ 0x76 ∷ 0x12 ∷ 0x0E ∷ 0x0A ∷ 0x06 ∷ 0x08 ∷ 0x02 ∷ 0x40 ∷ 0x00 ∷ 0x48 ∷ 0x00 ∷ 0x1A ∷ 0x04 ∷ 0x08 ∷ 0x02 ∷ 0x42 ∷ 0x00 ∷ []) ≡ in_entity 0 mixed_group }
-    ensures left_over { input_fault (0x00 ∷ 0x00 ∷ 0x00 ∷ 0x0B ∷ 0x0A ∷ 0x07 ∷ 0x4F ∷ 0x53 ∷ 0x4D ∷ 0x44 ∷ 0x61 ∷ 0x74 ∷ 0x61 ∷ 0x18 ∷ 0x22 ∷ 0x0A ∷ 0x20 ∷ 0x0A ∷ 0x0D ∷ 0x0A ∷ 0x00 ∷ 0x0A ∷ 0x01 ∷ 0x6B ∷ 0x0A ∷ 0x02 ∷ 0xC3 ∷ 0xA9 ∷ 0x0A ∷ 0x02 ∷ 0x76 ∷ 0x76 ∷ 0x12 ∷ 0x0F ∷ 0x12 ∷ 0x0D ∷ 0x0A ∷ 0x01 ∷ 0x04 ∷ 0x42 ∷ 0x01 ∷ 0x02 ∷ 0x4A ∷ 0x01 ∷ 0x02 ∷ 0x52 ∷ 0x02 ∷ 0x00 ∷ 0x00 ∷ []) ≡ in_entity 0 columns }
-    ensures unclosed { input_fault (0x00 ∷ 0x00 ∷ 0x00 ∷ 0x0B ∷ 0x0A ∷ 0x07 ∷ 0x4F ∷ 0x53 ∷ 0x4D ∷ 0x44 ∷ 0x61 ∷ 0x74 ∷ 0x61 ∷ 0x18 ∷ 0x22 ∷ 0x0A ∷ 0x20 ∷ 0x0A ∷ 0x0D ∷ 0x0A ∷ 0x00 ∷ 0x0A ∷ 0x01 ∷ 0x6B ∷ 0x0A ∷ 0x02 ∷ 0xC3 ∷ 0xA9 ∷ 0x0A ∷ 0x02 ∷ 0x76 ∷ 0x76 ∷ 0x12 ∷ 0x0F ∷ 0x12 ∷ 0x0D ∷ 0x0A ∷ 0x01 ∷ 0x04 ∷ 0x42 ∷ 0x01 ∷ 0x02 ∷ 0x4A ∷ 0x01 ∷ 0x02 ∷ 0x52 ∷ 0x02 ∷ 0x01 ∷ 0x02 ∷ []) ≡ in_entity 0 columns }
-    ensures uneven { input_fault (0x00 ∷ 0x00 ∷ 0x00 ∷ 0x0B ∷ 0x0A ∷ 0x07 ∷ 0x4F ∷ 0x53 ∷ 0x4D ∷ 0x44 ∷ 0x61 ∷ 0x74 ∷ 0x61 ∷ 0x18 ∷ 0x20 ∷ 0x0A ∷ 0x1E ∷ 0x0A ∷ 0x0D ∷ 0x0A ∷ 0x00 ∷ 0x0A ∷ 0x01 ∷ 0x6B ∷ 0x0A ∷ 0x02 ∷ 0xC3 ∷ 0xA9 ∷ 0x0A ∷ 0x02 ∷ 0x76 ∷ 0x76 ∷ 0x12 ∷ 0x0D ∷ 0x12 ∷ 0x0B ∷ 0x0A ∷ 0x02 ∷ 0x04 ∷ 0x06 ∷ 0x42 ∷ 0x01 ∷ 0x02 ∷ 0x4A ∷ 0x02 ∷ 0x02 ∷ 0x02 ∷ []) ≡ in_entity 0 columns }
-    ensures no_id { input_fault (0x00 ∷ 0x00 ∷ 0x00 ∷ 0x0B ∷ 0x0A ∷ 0x07 ∷ 0x4F ∷ 0x53 ∷ 0x4D ∷ 0x44 ∷ 0x61 ∷ 0x74 ∷ 0x61 ∷ 0x18 ∷ 0x17 ∷ 0x0A ∷ 0x15 ∷ 0x0A ∷ 0x0D ∷ 0x0A ∷ 0x00 ∷ 0x0A ∷ 0x01 ∷ 0x6B ∷ 0x0A ∷ 0x02 ∷ 0xC3 ∷ 0xA9 ∷ 0x0A ∷ 0x02 ∷ 0x76 ∷ 0x76 ∷ 0x12 ∷ 0x04 ∷ 0x1A ∷ 0x02 ∷ 0x42 ∷ 0x00 ∷ []) ≡ in_entity 0 missing }
-    ensures wide_sum { input_fault (0x00 ∷ 0x00 ∷ 0x00 ∷ 0x0B ∷ 0x0A ∷ 0x07 ∷ 0x4F ∷ 0x53 ∷ 0x4D ∷ 0x44 ∷ 0x61 ∷ 0x74 ∷ 0x61 ∷ 0x18 ∷ 0x2D ∷ 0x0A ∷ 0x2B ∷ 0x0A ∷ 0x0D ∷ 0x0A ∷ 0x00 ∷ 0x0A ∷ 0x01 ∷ 0x6B ∷ 0x0A ∷ 0x02 ∷ 0xC3 ∷ 0xA9 ∷ 0x0A ∷ 0x02 ∷ 0x76 ∷ 0x76 ∷ 0x12 ∷ 0x1A ∷ 0x1A ∷ 0x18 ∷ 0x08 ∷ 0x02 ∷ 0x42 ∷ 0x14 ∷ 0x80 ∷ 0x80 ∷ 0x80 ∷ 0x80 ∷ 0x80 ∷ 0x80 ∷ 0x80 ∷ 0x80 ∷ 0x80 ∷ 0x01 ∷ 0x80 ∷ 0x80 ∷ 0x80 ∷ 0x80 ∷ 0x80 ∷ 0x80 ∷ 0x80 ∷ 0x80 ∷ 0x80 ∷ 0x01 ∷ []) ≡ in_entity 0 range }
-    ensures beyond { input_fault (0x00 ∷ 0x00 ∷ 0x00 ∷ 0x0B ∷ 0x0A ∷ 0x07 ∷ 0x4F ∷ 0x53 ∷ 0x4D ∷ 0x44 ∷ 0x61 ∷ 0x74 ∷ 0x61 ∷ 0x18 ∷ 0x1F ∷ 0x0A ∷ 0x1D ∷ 0x0A ∷ 0x0D ∷ 0x0A ∷ 0x00 ∷ 0x0A ∷ 0x01 ∷ 0x6B ∷ 0x0A ∷ 0x02 ∷ 0xC3 ∷ 0xA9 ∷ 0x0A ∷ 0x02 ∷ 0x76 ∷ 0x76 ∷ 0x12 ∷ 0x0C ∷ 0x0A ∷ 0x0A ∷ 0x08 ∷ 0x02 ∷ 0x40 ∷ 0x82 ∷ 0xA4 ∷ 0xA7 ∷ 0xDA ∷ 0x06 ∷ 0x48 ∷ 0x00 ∷ []) ≡ in_entity 0 coordinate }
-    ensures no_values { input_fault (0x00 ∷ 0x00 ∷ 0x00 ∷ 0x0B ∷ 0x0A ∷ 0x07 ∷ 0x4F ∷ 0x53 ∷ 0x4D ∷ 0x44 ∷ 0x61 ∷ 0x74 ∷ 0x61 ∷ 0x18 ∷ 0x1D ∷ 0x0A ∷ 0x1B ∷ 0x0A ∷ 0x0D ∷ 0x0A ∷ 0x00 ∷ 0x0A ∷ 0x01 ∷ 0x6B ∷ 0x0A ∷ 0x02 ∷ 0xC3 ∷ 0xA9 ∷ 0x0A ∷ 0x02 ∷ 0x76 ∷ 0x76 ∷ 0x12 ∷ 0x0A ∷ 0x1A ∷ 0x08 ∷ 0x08 ∷ 0x02 ∷ 0x12 ∷ 0x01 ∷ 0x01 ∷ 0x42 ∷ 0x01 ∷ 0x02 ∷ []) ≡ in_entity 0 key_without_value }
-    ensures strange_member { input_fault (0x00 ∷ 0x00 ∷ 0x00 ∷ 0x0B ∷ 0x0A ∷ 0x07 ∷ 0x4F ∷ 0x53 ∷ 0x4D ∷ 0x44 ∷ 0x61 ∷ 0x74 ∷ 0x61 ∷ 0x18 ∷ 0x20 ∷ 0x0A ∷ 0x1E ∷ 0x0A ∷ 0x0D ∷ 0x0A ∷ 0x00 ∷ 0x0A ∷ 0x01 ∷ 0x6B ∷ 0x0A ∷ 0x02 ∷ 0xC3 ∷ 0xA9 ∷ 0x0A ∷ 0x02 ∷ 0x76 ∷ 0x76 ∷ 0x12 ∷ 0x0D ∷ 0x22 ∷ 0x0B ∷ 0x08 ∷ 0x02 ∷ 0x42 ∷ 0x01 ∷ 0x01 ∷ 0x4A ∷ 0x01 ∷ 0x02 ∷ 0x52 ∷ 0x01 ∷ 0x03 ∷ []) ≡ in_entity 0 member_kind }
-    ensures untold { input_fault (0x00 ∷ 0x00 ∷ 0x00 ∷ 0x0B ∷ 0x0A ∷ 0x07 ∷ 0x4F ∷ 0x53 ∷ 0x4D ∷ 0x44 ∷ 0x61 ∷ 0x74 ∷ 0x61 ∷ 0x18 ∷ 0x02 ∷ 0x0A ∷ 0x00 ∷ []) ≡ in_block 0 no_strings }
-    ensures wrong_box { input_fault (0x00 ∷ 0x00 ∷ 0x00 ∷ 0x0D ∷ 0x0A ∷ 0x09 ∷ 0x4F ∷ 0x53 ∷ 0x4D ∷ 0x48 ∷ 0x65 ∷ 0x61 ∷ 0x64 ∷ 0x65 ∷ 0x72 ∷ 0x18 ∷ 0x0C ∷ 0x0A ∷ 0x0A ∷ 0x0A ∷ 0x08 ∷ 0x08 ∷ 0x0A ∷ 0x10 ∷ 0x08 ∷ 0x18 ∷ 0x04 ∷ 0x20 ∷ 0x04 ∷ []) ≡ in_block 0 bad_box }
-    ensures wrong_size { input_fault (0x00 ∷ 0x00 ∷ 0x00 ∷ 0x0B ∷ 0x0A ∷ 0x07 ∷ 0x4F ∷ 0x53 ∷ 0x4D ∷ 0x44 ∷ 0x61 ∷ 0x74 ∷ 0x61 ∷ 0x18 ∷ 0x06 ∷ 0x0A ∷ 0x02 ∷ 0x0A ∷ 0x00 ∷ 0x10 ∷ 0x09 ∷ []) ≡ in_frame 0 (raw_size 9 2) }
-    ensures no_raw { input_fault (0x00 ∷ 0x00 ∷ 0x00 ∷ 0x0B ∷ 0x0A ∷ 0x07 ∷ 0x4F ∷ 0x53 ∷ 0x4D ∷ 0x44 ∷ 0x61 ∷ 0x74 ∷ 0x61 ∷ 0x18 ∷ 0x00 ∷ []) ≡ in_frame 0 no_data }
-    ensures no_datasize { input_fault (0x00 ∷ 0x00 ∷ 0x00 ∷ 0x03 ∷ 0x0A ∷ 0x01 ∷ 0x78 ∷ []) ≡ in_frame 0 no_size }
-    ensures far { frame_front (2 ^ 62) one_bench ≡ Err too_long }
+pub fn way_and_relation_rows()
+    ensures ways { input_fault ways_and_relation ≡ None }
+    ensures ways_entities { input_entities ways_and_relation ≡ ways_and_relation_entities }
+    ensures least_ref { input_entities (data_blob (part 3 (hex "08 01 42 0A" ++ least_number))) ≡ way_of 1 (negsuc (2 ^ 63 - 1) ∷ []) [] ∷ [] }
+    ensures below_least { input_fault (data_blob (part 3 (hex "08 01 42 0B" ++ least_number ++ hex "01"))) ≡ in_entity 0 range }
+    ensures wide_sum { input_fault (data_blob (part 3 (hex "08 02 42 14" ++ half_of_range ++ half_of_range))) ≡ in_entity 0 range }
+    ensures no_values { input_fault (data_blob (part 3 (hex "08 02 12 01 01 42 01 02"))) ≡ in_entity 0 key_without_value }
+    ensures no_keys { input_fault (data_blob (part 3 (hex "08 01 1A 01 01"))) ≡ in_entity 0 key_without_value }
+    ensures tags_before_refs { input_fault (data_blob (part 3 (hex "08 01 12 01 01 42 14" ++ half_of_range ++ half_of_range))) ≡ in_entity 0 key_without_value }
+    ensures tags_before_members { input_fault (data_blob (part 4 (hex "08 01 12 01 01 42 01 01"))) ≡ in_entity 0 key_without_value }
+    ensures role_before_kind { input_fault (data_blob (part 4 (hex "08 01 42 01 09 4A 01 02 52 01 03"))) ≡ in_entity 0 string_index }
+    ensures strange_member { input_fault (data_blob (part 4 (hex "08 02 42 01 01 4A 01 02 52 01 03"))) ≡ in_entity 0 member_kind }
+    ensures many_types { input_fault (data_blob (part 4 (hex "08 01 42 01 01 4A 01 02 52 02 00 00"))) ≡ in_entity 0 columns }
+    ensures many_ids { input_fault (data_blob (part 4 (hex "08 01 42 01 01 4A 02 02 02 52 01 00"))) ≡ in_entity 0 columns }
+{}
+
+/// The entities of whole inputs.
+#[tactic(auto, unfolding(crate::proofs::Compute::compute))]
+pub fn worked_inputs()
+    ensures bench_with_name { input_entities bench_with_name ≡ node_at 1 at_zero (bench_tags ++ (codes "name", codes "Spring") ∷ []) ∷ [] }
+    ensures missing_node { input_entities missing_node ≡ missing_node_entities }
+    ensures ring_of_three_ways { input_entities ring_of_three_ways ≡ forest_entities }
+    ensures water_tile { input_entities water_tile ≡ water_tile_entities }
+    ensures fault_before_limit { input_fault fault_before_limit ≡ in_entity 73 (out_of_order 5 (pos 5)) }
+    ensures none_before_limit { input_entities fault_before_limit ≡ [] }
 {}
