@@ -6,9 +6,9 @@ use Rattle.std.proofs.Math.Seq.{take-append-add}
 use Rattle.mf_base.specs.Spelling.{IsVarint}
 use Rattle.mf_base.specs.Steps.{◌>>=◌, told_as}
 use Rattle.mf_base.specs.NumberReading.{varint_front}
-use Rattle.osm_model.specs.Wire.{Value, varint, i64, len, i32, Field, wire_type, key_of, SpellsValue, SpellsField, varint_fault, number_front, bytes_front, varint_value, len_value, value_front, field_front}
 use Rattle.mf_base.proofs.StepLaws.{chosen, ok_is, err_is_no_ok, bind_ok, require_ok, told_ok}
 use Rattle.mf_base.proofs.NumberLemmas.{varint_reads, varint_found, IsFront}
+use Rattle.osm_model.specs.Wire.{Value, varint, i64, len, i32, Field, wire_type, key_of, SpellsValue, SpellsField, varint_fault, number_front, bytes_front, varint_value, len_value, value_front, field_front}
 
 number_reads : (n : ℕ) (b rest : List ℕ) → IsVarint n b → number_front (b ++ rest) ≡ Ok (n, length b)
 number_reads n b rest v = ap (told_as (λ fault. varint_fault)) (varint_reads n b rest v)

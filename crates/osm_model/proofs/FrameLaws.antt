@@ -3,18 +3,17 @@ use Rattle.std.proofs.Common.{◌≡◌, ◌≢◌, ◌==◌, ℕ, ◌+◌, ◌<
 use Rattle.std.specs.Prelude.{option_map, bytes_eq}
 use Rattle.std.proofs.lemmas.Bool.{cases_lt, lt-ltb, le-leb, leb-true, ltb-true, eqb-true, eq-eqb, cases_Bool}
 use Rattle.std.proofs.lemmas.List.{take_at, drop_at, length-take, length-drop, length-append, append_assoc, length-take-le, take-take, get_or-take, get_or_past}
-use Rattle.byteorder.specs.Endian.{big_number, big_bytes}
 use Rattle.std.specs.Cmp.Lexicographic.{bytes_decides}
+use Rattle.byteorder.specs.Endian.{big_number, big_bytes}
 use Rattle.byteorder.specs.Numbers.{big_number-reads_back, length-bytes_high_first}
-use Rattle.mf_base.specs.Spelling.{big_endian}
+use Rattle.mf_base.specs.Spelling.{big_endian, IsBytes}
 use Rattle.mf_base.specs.Steps.{◌>>=◌}
+use Rattle.mf_base.proofs.StepLaws.{chosen, ok_is, bind_ok, require_ok, told_ok, ok_or_ok, refuse_ok}
+use Rattle.mf_base.proofs.BigBytes.{big_bytes-big_number}
 use Rattle.osm_model.specs.Wire.{Field, IsMessage}
 use Rattle.osm_model.specs.Tables.{FitsTable, message, blob_header, blob, once_of, number_of}
-use Rattle.mf_base.specs.Spelling.{IsBytes}
 use Rattle.osm_model.specs.Frames.{Content, header, primitive, unread, type_of, header_limit, blob_limit, offset_limit, IsBlobHeader, IsBlob, HoldsContent, SpellsFrame, header_wire, blob_wire, no_type, no_size, compressed, no_data, raw_size, whole_part, raw_size_fault, raw_bytes, content_in, frame_front}
-use Rattle.mf_base.proofs.StepLaws.{chosen, ok_is, bind_ok, require_ok, told_ok, ok_or_ok, refuse_ok}
 use Rattle.osm_model.proofs.FieldLaws.{split_take}
-use Rattle.mf_base.proofs.BigBytes.{big_bytes-big_number}
 use Rattle.osm_model.proofs.TableMessageLaws.{message_is, message_found}
 use Rattle.osm_model.proofs.TableLaws.{some_no_none, true_no_false}
 

@@ -1,7 +1,7 @@
 -- Laws in the words of the public functions.
 use Rattle.std.proofs.Common.{◌≡◌, ℕ, List}
-use Rattle.osm_model.specs.Reading.{Reading}
 use Rattle.mf_base.specs.Spelling.{IsBytes}
+use Rattle.osm_model.specs.Reading.{Reading}
 use Rattle.osm_model.specs.Frames.{Frame, FrameFaultAt, ReadsFrames, frames}
 use Rattle.osm_model.proofs.FrameListLaws.{frames_read, frames-only}
 

@@ -1,211 +1,136 @@
--- Kinds do not go back, and ids rise.
-use Rattle.std.proofs.Common.{◌≡◌, ◌==◌, ◌&&◌, ℕ, ◌<◌, ◌≤◌, List, [], ◌∷◌, ◌++◌, refl, sym, subst, inl, inr, true, false, Bool, cond, Result, Ok, Err, Option, Some, None, ℤ, pos, negsuc, nat_lt, length}
-use Rattle.std.specs.Prelude.{nat_abs, int_le, flat_map}
-use Rattle.std.specs.List.{AllByRecursion, list_all}
+-- Objects in order rise.
+use Rattle.std.proofs.Common.{◌≡◌, ◌==◌, ◌||◌, ℕ, ◌<◌, ◌≤◌, List, [], ◌∷◌, ◌++◌, refl, sym, ap, subst, ◌∙◌, arith, inl, inr, true, false, Bool, cond, Result, Ok, Err, Option, Some, None, ℤ, pos, negsuc, nat_lt, append_assoc, append-nil}
+use Rattle.std.specs.Prelude.{nat_abs, int_le, map, unwrap_or, filter}
+use Rattle.std.specs.List.{AllByRecursion, last_or}
 use Rattle.std.proofs.lemmas.Bool.{leb-false, ltb-false, false≢true}
 use Rattle.mf_base.specs.declared.kind.EntityKind.{EntityKind}
+use Rattle.mf_base.specs.Steps.{refuse}
+use Rattle.mf_base.proofs.StepLaws.{bind_ok, refuse_ok, chosen}
 use Rattle.mf_base.specs.declared.kind.EntityKind.TheVariants as kinds
-use Rattle.mf_base.specs.Steps.{◌>>=◌, require, refuse, told_as}
-use Rattle.mf_base.specs.Ranges.{is_signed_64}
 use Rattle.osm_model.specs.Reading.{Reading}
-use Rattle.osm_model.specs.Wire.{Field}
-use Rattle.osm_model.specs.Tables.{message, dense_nodes, node_table, way_table, relation_table, MessageFault, counted_bytes, packed_of, signed_of}
-use Rattle.osm_model.specs.Blocks.{BlockHead, PrimitiveBlock, is_coordinate, place_of}
-use Rattle.osm_model.specs.Objects.{signed, int64_id, coordinate, range, columns, wire, with_list, empty_run, tags_of, run_tags, column, members_of, runs_of, zip_three, EntityFault, Object, TagRun, node_of, node_object, dense_node, with_runs, dense_columns, dense_objects, way_of, way_object, relation_of, relation_object, objects_at, field_objects, group_fields, group_objects, block_objects, kind_order, out_of_order}
-use Rattle.mf_base.specs.Tags.{Tag}
-use Rattle.osm_model.specs.Entities.{Member, Entity, node, way, relation, kind_of, id_of}
-use Rattle.osm_model.specs.Order.{Order, rank, last_id, with_entity, order_behind, order_fault, placed, in_order, IsOrdered}
-use Rattle.mf_base.proofs.StepLaws.{bind_ok, ok_is, refuse_ok, chosen, err_is_no_ok}
+use Rattle.osm_model.specs.Blocks.{PrimitiveBlock}
+use Rattle.osm_model.specs.Objects.{EntityFault, Object, block_objects, kind_order, out_of_order}
+use Rattle.osm_model.specs.Entities.{Entity, kind_of, id_of}
+use Rattle.osm_model.specs.Order.{rank, has_later_kind, ids_of, last_id, order_fault, placed, in_order, Precedes, IsRising}
 use Rattle.osm_model.proofs.TableLaws.{some_no_none}
-use Rattle.osm_model.proofs.OrderLaws.{in_order-nil, in_order-err, in_order-refused, in_order-next, order_behind-nil, order_behind-cons}
-
--- what an object is has its kind and its id
-abbrev pub IsItself : EntityKind → ℤ → Result Entity EntityFault → Type 0
-IsItself kind id told = (e : Entity) → told ≡ Ok e → (kind_of e ≡ kind) × (id_of e ≡ nat_abs id)
-
-abbrev pub Tells : Result Object EntityFault → Type 0
-Tells told = (object : Object) → told ≡ Ok object → IsItself object.kind object.id object.entity
-
-tells_err : (fault : EntityFault) → Tells (Err fault)
-tells_err fault object h = absurd (err_is_no_ok fault object h)
-
-abbrev found_node : BlockHead → ℤ → ℤ → ℤ → List Tag → Entity
-found_node head id lat lon tags = node (record { id = nat_abs id; place = place_of head lat lon; tags = tags })
-
-node_is : (head : BlockHead) (id lat lon : ℤ) (told : Result (List Tag) EntityFault) → IsItself kinds.Node id (node_of head id lat lon told)
-node_is head id lat lon (Ok tags) e h =
-    let (u, tested, last) = bind_ok (require (is_coordinate head lat lon) coordinate) (λ v. Ok (found_node head id lat lon tags)) e h in
-    let P : Entity → Type 0 = λ x. (kind_of x ≡ kinds.Node) × (id_of x ≡ nat_abs id) in
-    subst P (ok_is (found_node head id lat lon tags) e last) (refl, refl)
-node_is head id lat lon (Err fault) e h = let (u, tested, last) = bind_ok (require (is_coordinate head lat lon) coordinate) (λ v. Err fault) e h in absurd (err_is_no_ok fault e last)
-
-way_is : (id : ℤ) (refs : List ℤ) (told : Result (List Tag) EntityFault) → IsItself kinds.Way id (way_of id refs told)
-way_is id refs (Ok tags) e h =
-    let found : Entity = way (record { id = nat_abs id; refs = refs; tags = tags }) in
-    let (u, tested, last) = bind_ok (require (list_all is_signed_64 refs) range) (λ v. Ok found) e h in
-    let P : Entity → Type 0 = λ x. (kind_of x ≡ kinds.Way) × (id_of x ≡ nat_abs id) in
-    subst P (ok_is found e last) (refl, refl)
-way_is id refs (Err fault) e h = absurd (err_is_no_ok fault e h)
-
-relation_is : (id : ℤ) (members : Result (List Member) EntityFault) (told : Result (List Tag) EntityFault) → IsItself kinds.Relation id (relation_of id members told)
-relation_is id (Ok members) (Ok tags) e h =
-    let found : Entity = relation (record { id = nat_abs id; members = members; tags = tags }) in
-    let P : Entity → Type 0 = λ x. (kind_of x ≡ kinds.Relation) × (id_of x ≡ nat_abs id) in
-    subst P (ok_is found e h) (refl, refl)
-relation_is id (Err fault) (Ok tags) e h = absurd (err_is_no_ok fault e h)
-relation_is id members (Err fault) e h = absurd (err_is_no_ok fault e h)
-
-abbrev Consistent : Object → Type 0
-Consistent o = IsItself o.kind o.id o.entity
-
-abbrev node_at : PrimitiveBlock → List Field → ℤ → ℤ → ℤ → Object
-node_at b parts id lat lon = record { kind = kinds.Node; id = id; entity = node_of b.head id lat lon (tags_of b.strings (packed_of 2 parts) (packed_of 3 parts)) }
-
-node_tells : (b : PrimitiveBlock) (bytes : List ℕ) → Tells (node_object b bytes)
-unfolding node_object
-node_tells b bytes object h =
-    let (parts, read, r1) = bind_ok (told_as wire (message node_table bytes)) (λ p. signed 1 p >>= λ id. signed 8 p >>= λ lat. signed 9 p >>= λ lon. Ok (node_at b p id lat lon)) object h in
-    let (id, has_id, r2) = bind_ok (signed 1 parts) (λ i. signed 8 parts >>= λ lat. signed 9 parts >>= λ lon. Ok (node_at b parts i lat lon)) object r1 in
-    let (lat, has_lat, r3) = bind_ok (signed 8 parts) (λ y. signed 9 parts >>= λ lon. Ok (node_at b parts id y lon)) object r2 in
-    let (lon, has_lon, last) = bind_ok (signed 9 parts) (λ x. Ok (node_at b parts id lat x)) object r3 in
-    subst Consistent (ok_is (node_at b parts id lat lon) object last) (node_is b.head id lat lon (tags_of b.strings (packed_of 2 parts) (packed_of 3 parts)))
-
-abbrev way_at : PrimitiveBlock → List Field → ℤ → Object
-way_at b parts id = record { kind = kinds.Way; id = id; entity = way_of id (column (signed_of 8 parts)) (tags_of b.strings (packed_of 2 parts) (packed_of 3 parts)) }
-
-way_tells : (b : PrimitiveBlock) (bytes : List ℕ) → Tells (way_object b bytes)
-unfolding way_object
-way_tells b bytes object h =
-    let (parts, read, r1) = bind_ok (told_as wire (message way_table bytes)) (λ p. int64_id p >>= λ id. Ok (way_at b p id)) object h in
-    let (id, has_id, last) = bind_ok (int64_id parts) (λ i. Ok (way_at b parts i)) object r1 in
-    subst Consistent (ok_is (way_at b parts id) object last) (way_is id (column (signed_of 8 parts)) (tags_of b.strings (packed_of 2 parts) (packed_of 3 parts)))
-
-abbrev relation_at : PrimitiveBlock → List Field → ℤ → Object
-relation_at b parts id = record { kind = kinds.Relation; id = id; entity = relation_of id (members_of b.strings (packed_of 8 parts) (signed_of 9 parts) (packed_of 10 parts)) (tags_of b.strings (packed_of 2 parts) (packed_of 3 parts)) }
-
-relation_tells : (b : PrimitiveBlock) (bytes : List ℕ) → Tells (relation_object b bytes)
-unfolding relation_object
-relation_tells b bytes object h =
-    let (parts, read, r1) = bind_ok (told_as wire (message relation_table bytes)) (λ p. int64_id p >>= λ id. Ok (relation_at b p id)) object h in
-    let (id, has_id, last) = bind_ok (int64_id parts) (λ i. Ok (relation_at b parts i)) object r1 in
-    subst Consistent (ok_is (relation_at b parts id) object last) (relation_is id (members_of b.strings (packed_of 8 parts) (signed_of 9 parts) (packed_of 10 parts)) (tags_of b.strings (packed_of 2 parts) (packed_of 3 parts)))
-
-abbrev dense_at : PrimitiveBlock → ℤ → ℤ → ℤ → TagRun → Object
-dense_at b id lat lon run = record { kind = kinds.Node; id = id; entity = node_of b.head id lat lon (run_tags b.strings run) }
-
-dense_tells : (b : PrimitiveBlock) (n : ℤ × ℤ × ℤ) (run : TagRun) → Tells (dense_node b n run)
-dense_tells b (id, lat, lon) run object h =
-    let (u, tested, last) = bind_ok (require (is_signed_64 id && is_signed_64 lat && is_signed_64 lon) range) (λ v. Ok (dense_at b id lat lon run)) object h in
-    subst Consistent (ok_is (dense_at b id lat lon run) object last) (node_is b.head id lat lon (run_tags b.strings run))
-
-abbrev AllTell : List (Result Object EntityFault) → Type 0
-AllTell objects = AllByRecursion Tells objects
-
-with_runs_tell : (b : PrimitiveBlock) (ns : List (ℤ × ℤ × ℤ)) (runs : List TagRun) → AllTell (with_runs b ns runs)
-unfolding with_runs
-with_runs_tell b [] [] = tt
-with_runs_tell b [] (run ∷ runs) = (tells_err columns, tt)
-with_runs_tell b (n ∷ ns) [] = (dense_tells b n (empty_run with_list), with_runs_tell b ns [])
-with_runs_tell b (n ∷ ns) (run ∷ runs) = (dense_tells b n run, with_runs_tell b ns runs)
-
-either : (c : Bool) (xs ys : List (Result Object EntityFault)) → AllTell xs → AllTell ys → AllTell (cond c xs ys)
-either true xs ys h k = h
-either false xs ys h k = k
-
-columns_tell : (b : PrimitiveBlock) (ids lats lons : List ℤ) (keys_vals : List ℕ) → AllTell (dense_columns b ids lats lons keys_vals)
-unfolding dense_columns
-columns_tell b ids lats lons keys_vals =
-    either ((length ids == length lats) && (length ids == length lons)) (with_runs b (zip_three (column ids) (column lats) (column lons)) (runs_of (length ids) keys_vals)) (Err columns ∷ [])
-    (with_runs_tell b (zip_three (column ids) (column lats) (column lons)) (runs_of (length ids) keys_vals)) (tells_err columns, tt)
-
-abbrev dense_parts : PrimitiveBlock → Result (List Field) MessageFault → List (Result Object EntityFault)
-dense_parts b r = elim r [ Ok parts ↦ dense_columns b (signed_of 1 parts) (signed_of 8 parts) (signed_of 9 parts) (packed_of 10 parts) | Err fault ↦ Err (wire fault) ∷ [] ]
-
-dense_parts_tell : (b : PrimitiveBlock) (r : Result (List Field) MessageFault) → AllTell (dense_parts b r)
-dense_parts_tell b (Ok parts) = columns_tell b (signed_of 1 parts) (signed_of 8 parts) (signed_of 9 parts) (packed_of 10 parts)
-dense_parts_tell b (Err fault) = (tells_err (wire fault), tt)
-
-dense_objects_tell : (b : PrimitiveBlock) (bytes : List ℕ) → AllTell (dense_objects b bytes)
-unfolding dense_objects
-dense_objects_tell b bytes = dense_parts_tell b (message dense_nodes bytes)
-
-at_tell : (b : PrimitiveBlock) (k : ℕ) (bytes : List ℕ) → AllTell (objects_at b k bytes)
-at_tell b k bytes =
-    either (k == 1) (node_object b bytes ∷ []) _ (node_tells b bytes, tt)
-    (either (k == 2) (dense_objects b bytes) _ (dense_objects_tell b bytes)
-    (either (k == 3) (way_object b bytes ∷ []) _ (way_tells b bytes, tt)
-    (either (k == 4) (relation_object b bytes ∷ []) [] (relation_tells b bytes, tt) tt)))
-
-abbrev of_bytes : PrimitiveBlock → ℕ → Option (List ℕ) → List (Result Object EntityFault)
-of_bytes b k o = elim o [ None ↦ [] | Some bytes ↦ objects_at b k bytes ]
-
-of_bytes_tell : (b : PrimitiveBlock) (k : ℕ) (o : Option (List ℕ)) → AllTell (of_bytes b k o)
-of_bytes_tell b k None = tt
-of_bytes_tell b k (Some bytes) = at_tell b k bytes
-
-all-append : (xs ys : List (Result Object EntityFault)) → AllTell xs → AllTell ys → AllTell (xs ++ ys)
-all-append [] ys h k = k
-all-append (x ∷ xs) ys h k = (h.0, all-append xs ys h.1 k)
-
-all-flat_map : {X : Type 0} (f : X → List (Result Object EntityFault)) → ((x : X) → AllTell (f x)) → (xs : List X) → AllTell (flat_map f xs)
-all-flat_map f h [] = tt
-all-flat_map f h (x ∷ xs) = all-append (f x) (flat_map f xs) (h x) (all-flat_map f h xs)
-
-abbrev of_fields : PrimitiveBlock → Result (List Field) EntityFault → List (Result Object EntityFault)
-of_fields b r = elim r [ Ok parts ↦ flat_map (field_objects b) parts | Err fault ↦ Err fault ∷ [] ]
-
-of_fields_tell : (b : PrimitiveBlock) (r : Result (List Field) EntityFault) → AllTell (of_fields b r)
-of_fields_tell b (Ok parts) = all-flat_map (field_objects b) (λ f. of_bytes_tell b f.number (counted_bytes f.value)) parts
-of_fields_tell b (Err fault) = (tells_err fault, tt)
-
-group_tell : (b : PrimitiveBlock) (bytes : List ℕ) → AllTell (group_objects b bytes)
-unfolding group_objects
-group_tell b bytes = of_fields_tell b (group_fields bytes)
-
-pub block_tell : (b : PrimitiveBlock) → AllTell (block_objects b)
-unfolding block_objects
-block_tell b = all-flat_map (group_objects b) (group_tell b) b.groups
-
--- ---- in order
+use Rattle.osm_model.proofs.OrderLaws.{in_order-nil, in_order-err, in_order-refused, in_order-next}
+use Rattle.osm_model.proofs.TellingLaws.{Consistent, AllTell, block_tell}
 
 below_id : (id : ℤ) (n : ℕ) → int_le id (pos n) ≡ false → n < nat_abs id
 below_id (pos m) n e = leb-false m n e
 below_id (negsuc m) n e = absurd (false≢true (sym e))
 
-order_parts : (order : Order) (kind : EntityKind) (id : ℤ) → order_fault order kind id ≡ None → (rank order.kind ≤ rank kind) × (last_id order kind < nat_abs id)
-order_parts order kind id e =
-    elim (chosen (nat_lt (rank kind) (rank order.kind)) (Some kind_order) (cond (int_le id (pos (last_id order kind))) (Some (out_of_order (last_id order kind) id)) None) None e) [
+-- kinds of one rank are one kind
+one_rank : (j k : EntityKind) → (rank j == rank k) ≡ true → j ≡ k
+one_rank kinds.Node kinds.Node e = refl
+one_rank kinds.Node kinds.Way e = absurd (false≢true e)
+one_rank kinds.Node kinds.Relation e = absurd (false≢true e)
+one_rank kinds.Way kinds.Node e = absurd (false≢true e)
+one_rank kinds.Way kinds.Way e = refl
+one_rank kinds.Way kinds.Relation e = absurd (false≢true e)
+one_rank kinds.Relation kinds.Node e = absurd (false≢true e)
+one_rank kinds.Relation kinds.Way e = absurd (false≢true e)
+one_rank kinds.Relation kinds.Relation e = refl
+
+same_rank : (k : EntityKind) → (rank k == rank k) ≡ true
+same_rank kinds.Node = refl
+same_rank kinds.Way = refl
+same_rank kinds.Relation = refl
+
+-- no object is of a later kind
+neither : (p q : Bool) → (p || q) ≡ false → (p ≡ false) × (q ≡ false)
+neither true q e = absurd (false≢true (sym e))
+neither false q e = (refl, e)
+
+no_later : (kind : EntityKind) (es : List Entity) → has_later_kind kind es ≡ false → AllByRecursion (λ d. rank (kind_of d) ≤ rank kind) es
+no_later kind [] e = tt
+no_later kind (d ∷ ds) e =
+    let (here, later) = neither (nat_lt (rank kind) (rank (kind_of d))) (has_later_kind kind ds) e in
+    (ltb-false (rank kind) (rank (kind_of d)) here, no_later kind ds later)
+
+-- an id above the last of its kind is above all of its kind
+abbrev OfKindBelow : EntityKind → ℕ → List Entity → Type 0
+OfKindBelow kind n es = AllByRecursion (λ d. kind_of d ≡ kind → id_of d < n) es
+
+abbrev OfKindAbove : EntityKind → ℕ → List Entity → Type 0
+OfKindAbove kind n es = AllByRecursion (λ d. kind_of d ≡ kind → n < id_of d) es
+
+preceded : (kind : EntityKind) (d : Entity) (es : List Entity) → kind_of d ≡ kind → AllByRecursion (λ later. Precedes d later) es → OfKindAbove kind (id_of d) es
+preceded kind d [] same h = tt
+preceded kind d (e ∷ es) same h = ((λ k. h.0.1 (same ∙ sym k)), preceded kind d es same h.1)
+
+abbrev last_behind : Option ℕ → EntityKind → List Entity → ℕ
+last_behind o kind es = unwrap_or (last_or o (ids_of kind es)) 0
+
+abbrev AllBelow : EntityKind → ℕ → List Entity → Option ℕ → Type 0
+AllBelow kind n es o = OfKindAbove kind (unwrap_or o 0) es → last_behind o kind es < n → (unwrap_or o 0 < n) × OfKindBelow kind n es
+
+all_below : (kind : EntityKind) (n : ℕ) (es : List Entity) (o : Option ℕ) → IsRising es → AllBelow kind n es o
+all_below kind n [] o rising above h = (h, tt)
+all_below kind n (d ∷ ds) o rising above h = go (λ p. all_below kind n ds p rising.2) (rank (kind_of d) == rank kind) refl h
+  where
+    go : ((p : Option ℕ) → AllBelow kind n ds p) → (c : Bool) → (rank (kind_of d) == rank kind) ≡ c
+        → unwrap_or (last_or o (map id_of (cond c (d ∷ filter (λ e. rank (kind_of e) == rank kind) ds) (filter (λ e. rank (kind_of e) == rank kind) ds)))) 0 < n → (unwrap_or o 0 < n) × OfKindBelow kind n (d ∷ ds)
+    go later true e least =
+        let same = one_rank (kind_of d) kind e in
+        let (here, others) = later (Some (id_of d)) (preceded kind d ds same rising.1) least in
+        let first : unwrap_or o 0 < id_of d = above.0 same in
+        (omega (arith, first, here), ((λ k. here), others))
+    go later false e least =
+        let (here, others) = later o above.1 least in
+        (here, ((λ k. absurd (false≢true (sym e ∙ ap (λ j. rank j == rank kind) k ∙ same_rank kind))), others))
+
+above_none : (kind : EntityKind) (es : List Entity) → IsRising es → OfKindAbove kind 0 es
+above_none kind [] rising = tt
+above_none kind (e ∷ es) rising = ((λ k. rising.0), above_none kind es rising.2)
+
+below_last : (kind : EntityKind) (n : ℕ) (es : List Entity) → IsRising es → last_id kind es < n → OfKindBelow kind n es
+below_last kind n es rising h = (all_below kind n es None rising (above_none kind es rising) h).1
+
+order_parts : (before : List Entity) (kind : EntityKind) (id : ℤ) → order_fault before kind id ≡ None → (has_later_kind kind before ≡ false) × (last_id kind before < nat_abs id)
+order_parts before kind id e =
+    elim (chosen (has_later_kind kind before) (Some kind_order) (cond (int_le id (pos (last_id kind before))) (Some (out_of_order (last_id kind before) id)) None) None e) [
       | inl back ↦ absurd (some_no_none kind_order back.1)
       | inr on ↦
-          elim (chosen (int_le id (pos (last_id order kind))) (Some (out_of_order (last_id order kind) id)) None None on.1) [
-            | inl low ↦ absurd (some_no_none (out_of_order (last_id order kind) id) low.1)
-            | inr above ↦ (ltb-false (rank kind) (rank order.kind) on.0, below_id id (last_id order kind) above.0)
+          elim (chosen (int_le id (pos (last_id kind before))) (Some (out_of_order (last_id kind before) id)) None None on.1) [
+            | inl low ↦ absurd (some_no_none (out_of_order (last_id kind before) id) low.1)
+            | inr above ↦ (on.0, below_id id (last_id kind before) above.0)
           ]
     ]
 
-placed_parts : (order : Order) (object : Object) (e : Entity) → Consistent object → placed order object ≡ Ok e → (rank order.kind ≤ rank (kind_of e)) × (last_id order (kind_of e) < id_of e)
-placed_parts order object e told h =
-    let (u, tested, rest) = bind_ok (refuse (order_fault order object.kind object.id)) (λ v. object.entity) e h in
-    let parts = order_parts order object.kind object.id (refuse_ok (order_fault order object.kind object.id) u tested) in
+-- all may stand before an object of no earlier kind whose id is above those of its kind
+precede : (es : List Entity) (e : Entity) → AllByRecursion (λ d. rank (kind_of d) ≤ rank (kind_of e)) es → OfKindBelow (kind_of e) (id_of e) es → AllByRecursion (λ d. Precedes d e) es
+precede [] e kinds_rise ids_rise = tt
+precede (d ∷ ds) e kinds_rise ids_rise = ((kinds_rise.0, ids_rise.0), precede ds e kinds_rise.1 ids_rise.1)
+
+all_with : (P : Entity → Type 0) (xs : List Entity) (y : Entity) → AllByRecursion P xs → P y → AllByRecursion P (xs ++ y ∷ [])
+all_with P [] y h k = (k, tt)
+all_with P (x ∷ xs) y h k = (h.0, all_with P xs y h.1 k)
+
+rising_with : (es : List Entity) (e : Entity) → IsRising es → 0 < id_of e → AllByRecursion (λ d. Precedes d e) es → IsRising (es ++ e ∷ [])
+rising_with [] e rising some h = (some, tt, tt)
+rising_with (d ∷ ds) e rising some h = (rising.0, all_with (Precedes d) ds e rising.1 h.0, rising_with ds e rising.2 some h.1)
+
+placed_rises : (before : List Entity) (object : Object) (e : Entity) → IsRising before → Consistent object → placed before object ≡ Ok e → IsRising (before ++ e ∷ [])
+placed_rises before object e rising told h =
+    let (u, tested, rest) = bind_ok (refuse (order_fault before object.kind object.id)) (λ v. object.entity) e h in
+    let parts = order_parts before object.kind object.id (refuse_ok (order_fault before object.kind object.id) u tested) in
     let same = told e rest in
-    let kind_first : (rank order.kind ≤ rank (kind_of e)) × (last_id order (kind_of e) < nat_abs object.id) = subst (λ k. (rank order.kind ≤ rank k) × (last_id order k < nat_abs object.id)) (sym same.0) parts in
-    (kind_first.0, subst (λ n. last_id order (kind_of e) < n) (sym same.1) kind_first.1)
+    let ranks : AllByRecursion (λ d. rank (kind_of d) ≤ rank (kind_of e)) before = subst (λ k. AllByRecursion (λ d. rank (kind_of d) ≤ rank k) before) (sym same.0) (no_later object.kind before parts.0) in
+    let last : last_id (kind_of e) before < id_of e = subst (λ n. last_id (kind_of e) before < n) (sym same.1) (subst (λ k. last_id k before < nat_abs object.id) (sym same.0) parts.1) in
+    rising_with before e rising (omega (arith, last)) (precede before e ranks (below_last (kind_of e) (id_of e) before rising last))
 
-pub in_order-rises : (order : Order) (objects : List (Result Object EntityFault)) → AllTell objects → IsOrdered order (in_order order objects).items
-in_order-rises order [] h = subst (λ r. IsOrdered order r.items) (sym (in_order-nil order)) tt
-in_order-rises order (Err fault ∷ others) h = subst (λ (r : Reading Entity EntityFault). IsOrdered order r.items) (sym (in_order-err order fault others)) tt
-in_order-rises order (Ok object ∷ others) h = go (λ o. in_order-rises o others h.1) (placed order object) refl
+pub in_order-rises : (objects : List (Result Object EntityFault)) (before : List Entity) → IsRising before → AllTell objects → IsRising (before ++ (in_order before objects).items)
+in_order-rises [] before rising h = subst (λ (r : Reading Entity EntityFault). IsRising (before ++ r.items)) (sym (in_order-nil before)) (subst IsRising (sym (append-nil before)) rising)
+in_order-rises (Err fault ∷ others) before rising h = subst (λ (r : Reading Entity EntityFault). IsRising (before ++ r.items)) (sym (in_order-err before fault others)) (subst IsRising (sym (append-nil before)) rising)
+in_order-rises (Ok object ∷ others) before rising h = go (λ o k. in_order-rises others o k h.1) (placed before object) refl
   where
-    go : ((o : Order) → IsOrdered o (in_order o others).items) → (r : Result Entity EntityFault) → placed order object ≡ r → IsOrdered order (in_order order (Ok object ∷ others)).items
-    go later (Err fault) e = subst (λ (r : Reading Entity EntityFault). IsOrdered order r.items) (sym (in_order-refused order object others fault e)) tt
+    go : ((o : List Entity) → IsRising o → IsRising (o ++ (in_order o others).items)) → (r : Result Entity EntityFault) → placed before object ≡ r → IsRising (before ++ (in_order before (Ok object ∷ others)).items)
+    go later (Err fault) e = subst (λ (r : Reading Entity EntityFault). IsRising (before ++ r.items)) (sym (in_order-refused before object others fault e)) (subst IsRising (sym (append-nil before)) rising)
     go later (Ok entity) e =
-        let parts = placed_parts order object entity (h.0 object refl) e in
-        subst (λ (r : Reading Entity EntityFault). IsOrdered order r.items) (sym (in_order-next order object others entity e)) (parts.0, parts.1, later (with_entity order entity))
+        let more : List Entity = (in_order (before ++ entity ∷ []) others).items in
+        let behind : IsRising ((before ++ entity ∷ []) ++ more) = later (before ++ entity ∷ []) (placed_rises before object entity rising (h.0 object refl) e) in
+        subst (λ (r : Reading Entity EntityFault). IsRising (before ++ r.items)) (sym (in_order-next before object others entity e)) (subst IsRising (append_assoc before (entity ∷ []) more) behind)
 
-pub block-rises : (order : Order) (b : PrimitiveBlock) → IsOrdered order (in_order order (block_objects b)).items
-block-rises order b = in_order-rises order (block_objects b) (block_tell b)
-
--- objects in two parts
-pub ordered-append : (order : Order) (xs ys : List Entity) → IsOrdered order xs → IsOrdered (order_behind order xs) ys → IsOrdered order (xs ++ ys)
-ordered-append order [] ys h k = subst (λ o. IsOrdered o ys) (order_behind-nil order) k
-ordered-append order (x ∷ xs) ys h k = (h.0, h.1, ordered-append (with_entity order x) xs ys h.2 (subst (λ o. IsOrdered o ys) (order_behind-cons order x xs) k))
+pub block-rises : (before : List Entity) (b : PrimitiveBlock) → IsRising before → IsRising (before ++ (in_order before (block_objects b)).items)
+block-rises before b rising = in_order-rises (block_objects b) before rising (block_tell b)

@@ -2,9 +2,9 @@
 use Rattle.std.specs.Prelude.{ℕ, ℤ, List, Option, Some, None, filter_map}
 use Rattle.mf_base.specs.declared.place.Place.{Place}
 use Rattle.mf_base.specs.declared.kind.EntityKind.{EntityKind}
-use Rattle.mf_base.specs.declared.kind.EntityKind.TheVariants as kinds
 use Rattle.mf_base.specs.Texts.{Text}
 use Rattle.mf_base.specs.Tags.{Tags}
+use Rattle.mf_base.specs.declared.kind.EntityKind.TheVariants as kinds
 
 -- A member of a relation, with the id as it is written.
 pub record Member : Type 0 where

@@ -8,7 +8,7 @@ use Rattle.osm_model.specs.Frames.{Content, header, primitive, unread, Frame, Fr
 use Rattle.osm_model.specs.Blocks.{BlockFault, header_box, block}
 use Rattle.osm_model.specs.Entities.{Entity}
 use Rattle.osm_model.specs.Objects.{EntityFault, block_objects, block_entities}
-use Rattle.osm_model.specs.Order.{Order, no_order, order_behind, in_order}
+use Rattle.osm_model.specs.Order.{in_order}
 
 -- Why an input is refused.
 pub data InputCode : Type 0 where
@@ -21,28 +21,33 @@ pub record InputFault : Type 0 where
   pub at : ℕ
   pub code : InputCode
 
--- the first fault of a PrimitiveBlock behind objects of this order
-unfoldable pub block_fault : Order → List ℕ → Option InputCode
-block_fault order raw =
+-- the first fault of a PrimitiveBlock behind these objects
+unfoldable pub block_fault : List Entity → List ℕ → Option InputCode
+block_fault before raw =
     elim (block raw) [
-      | Ok in_block ↦ option_map of_entity (in_order order (block_objects in_block)).fault
+      | Ok in_block ↦ option_map of_entity (in_order before (block_objects in_block)).fault
       | Err fault ↦ Some (of_block fault)
     ]
 
--- the first fault of what a blob holds, behind objects of this order
-abbrev pub content_fault : Order → Content → Option InputCode
-content_fault order (header raw) = option_map of_block (fault_of (header_box raw))
-content_fault order (primitive raw) = block_fault order raw
-content_fault order (unread kind) = None
+-- the first fault of what a blob holds, behind these objects
+abbrev pub content_fault : List Entity → Content → Option InputCode
+content_fault before (header raw) = option_map of_block (fault_of (header_box raw))
+content_fault before (primitive raw) = block_fault before raw
+content_fault before (unread kind) = None
 
--- the objects of what a blob holds, in the order of the bytes
+-- the objects of a PrimitiveBlock, in the order of the bytes
 unfoldable pub raw_entities : List ℕ → List Entity
 raw_entities raw = elim (block raw) [ Ok in_block ↦ block_entities in_block | Err fault ↦ [] ]
 
+-- the objects of what a blob holds
 abbrev pub content_entities : Content → List Entity
 content_entities (header raw) = []
 content_entities (primitive raw) = raw_entities raw
 content_entities (unread kind) = []
+
+-- the objects of blobs, in the order of the bytes
+abbrev pub entities_of : List Frame → List Entity
+entities_of fs = flat_map (λ (f : Frame). content_entities f.content) fs
 
 -- the box of what a blob holds
 abbrev pub box_or_none : Result (Option Rect) BlockFault → Option Rect
@@ -54,18 +59,18 @@ content_box (header raw) = box_or_none (header_box raw)
 content_box (primitive raw) = None
 content_box (unread kind) = None
 
--- The blobs whose content has no fault, up to the first fault.
-unfoldable pub sound_frames : Order → List Frame → Reading Frame InputFault
-sound_frames order [] = all_read
-sound_frames order (f ∷ fs) =
-    elim (content_fault order f.content) [
-      | None ↦ then_reads f (sound_frames (order_behind order (content_entities f.content)) fs)
+-- The blobs whose content has no fault behind these objects and those of the blobs before it, up to the first fault.
+unfoldable pub sound_frames : List Entity → List Frame → Reading Frame InputFault
+sound_frames before [] = all_read
+sound_frames before (f ∷ fs) =
+    elim (content_fault before f.content) [
+      | None ↦ then_reads f (sound_frames (before ++ content_entities f.content) fs)
       | Some code ↦ stops_at (record { at = f.at; code = code })
     ]
 
 -- the longest list of blobs without a fault that the bytes begin with
 unfoldable pub good_frames : List ℕ → List Frame
-good_frames bytes = (sound_frames no_order (frames bytes).items).items
+good_frames bytes = (sound_frames [] (frames bytes).items).items
 
 -- a fault of a blob as one of the input
 abbrev pub frame_fault : FrameFaultAt → InputFault
@@ -75,11 +80,11 @@ frame_fault told = record { at = told.at; code = of_frame told.fault }
 unfoldable pub input_fault : List ℕ → Option InputFault
 input_fault bytes =
     let read = frames bytes in
-    option_or (sound_frames no_order read.items).fault (option_map frame_fault read.fault)
+    option_or (sound_frames [] read.items).fault (option_map frame_fault read.fault)
 
 -- The objects of an input, in the order of the bytes.
 unfoldable pub input_entities : List ℕ → List Entity
-input_entities bytes = flat_map (λ (f : Frame). content_entities f.content) (good_frames bytes)
+input_entities bytes = entities_of (good_frames bytes)
 
 -- The box that an input gives: that of the first header with one.
 unfoldable pub input_box : List ℕ → Option Rect
@@ -89,19 +94,19 @@ input_box bytes = find (λ box. true) (filter_map (λ (f : Frame). content_box f
 abbrev pub known_box : Option Rect → List ℕ → Option Rect
 known_box words bytes = option_or words (input_box bytes)
 
--- Blobs whose content has no fault, each behind the objects of those before it.
-abbrev pub AreSound : Order → List Frame → Type 0
-AreSound order [] = ⊤
-AreSound order (f ∷ fs) = (content_fault order f.content ≡ None) × AreSound (order_behind order (content_entities f.content)) fs
+-- Blobs whose content has no fault behind these objects and those of the blobs before it.
+abbrev pub AreSound : List Entity → List Frame → Type 0
+AreSound before [] = ⊤
+AreSound before (f ∷ fs) = (content_fault before f.content ≡ None) × AreSound (before ++ content_entities f.content) fs
 
--- the first step that bytes at this offset break, behind objects of this order
-abbrev pub first_step : Order → ℕ → List ℕ → Option InputCode
-first_step order at bytes = elim (frame_front at bytes) [ Ok found ↦ content_fault order found.0 | Err fault ↦ Some (of_frame fault) ]
+-- the first step that bytes at this offset break, behind these objects
+abbrev pub first_step : List Entity → ℕ → List ℕ → Option InputCode
+first_step before at bytes = elim (frame_front at bytes) [ Ok found ↦ content_fault before found.0 | Err fault ↦ Some (of_frame fault) ]
 
--- Nothing is left, or bytes at this offset that break a step.
-abbrev pub InputEnds : Order → ℕ → List ℕ → Option InputFault → Type 0
-InputEnds order at rest None = rest ≡ []
-InputEnds order at rest (Some fault) = (rest ≢ []) × (fault.at ≡ at) × (first_step order at rest ≡ Some fault.code)
+-- Nothing is left, or bytes at this offset that break a step behind these objects.
+abbrev pub InputEnds : List Entity → ℕ → List ℕ → Option InputFault → Type 0
+InputEnds before at rest None = rest ≡ []
+InputEnds before at rest (Some fault) = (rest ≢ []) × (fault.at ≡ at) × (first_step before at rest ≡ Some fault.code)
 
 -- The input is blobs without a fault, and then nothing, or bytes that break a step.
 pub record ReadsInput (bytes : List ℕ) (good : List Frame) (fault : Option InputFault) : Type 0 where
@@ -109,5 +114,5 @@ pub record ReadsInput (bytes : List ℕ) (good : List Frame) (fault : Option Inp
   pub rest : List ℕ
   pub whole : bytes ≡ front ++ rest
   pub spelled : AreFrames 0 front good
-  pub sound : AreSound no_order good
-  pub ended : InputEnds (order_behind no_order (flat_map (λ (f : Frame). content_entities f.content) good)) (length front) rest fault
+  pub sound : AreSound [] good
+  pub ended : InputEnds (entities_of good) (length front) rest fault

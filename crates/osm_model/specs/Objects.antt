@@ -3,10 +3,10 @@ use Rattle.std.specs.Prelude.{◌<◌, ℕ, zero, suc, Bool, true, ◌&&◌, ◌
 use Rattle.std.specs.List.{list_all, AllByRecursion}
 use Rattle.mf_base.specs.Tags.{Tag, Tags}
 use Rattle.mf_base.specs.declared.kind.EntityKind.{EntityKind}
-use Rattle.mf_base.specs.declared.kind.EntityKind.TheVariants as kinds
 use Rattle.mf_base.specs.Steps.{◌>>=◌, require, told_as, each, answer_of}
 use Rattle.mf_base.specs.Spelling.{unzigzag_of}
 use Rattle.mf_base.specs.Ranges.{is_signed_64}
+use Rattle.mf_base.specs.declared.kind.EntityKind.TheVariants as kinds
 use Rattle.osm_model.specs.Wire.{Field, int64}
 use Rattle.osm_model.specs.Tables.{MessageFault, message, primitive_group, node_table, dense_nodes, way_table, relation_table, counted_bytes, number_of, packed_of, signed_of}
 use Rattle.osm_model.specs.Blocks.{BlockHead, PrimitiveBlock, is_coordinate, place_of}

@@ -1,69 +1,58 @@
--- The order of the objects of an input: this project's profile of the OpenStreetMap wiki, "PBF Format", on sorted files.
-use Rattle.std.specs.Prelude.{◌<◌, ◌≤◌, ⊤, ℕ, nat_lt, if◌then◌else◌, List, [], ◌∷◌, Option, Some, None, Result, Ok, Err, ℤ, pos, int_le}
+-- The order of the objects of an input: the OpenStreetMap wiki, "PBF Format", on files that are sorted by type and then by id. This project's profile asks for that order.
+use Rattle.std.specs.Prelude.{◌≡◌, ◌<◌, ◌≤◌, ⊤, ℕ, Bool, ◌==◌, nat_lt, if◌then◌else◌, List, [], ◌∷◌, ◌++◌, map, filter, Option, Some, None, unwrap_or, Result, Ok, Err, ℤ, pos, int_le}
+use Rattle.std.specs.List.{list_any, last_or, AllByRecursion}
+use Rattle.mf_base.specs.Steps.{◌>>=◌, refuse}
 use Rattle.mf_base.specs.declared.kind.EntityKind.{EntityKind}
 use Rattle.mf_base.specs.declared.kind.EntityKind.TheVariants as kinds
-use Rattle.mf_base.specs.Steps.{◌>>=◌, refuse}
 use Rattle.osm_model.specs.Reading.{Reading, all_read, stops_at, then_reads}
-use Rattle.osm_model.specs.Entities.{Entity, node, way, relation, kind_of, id_of}
+use Rattle.osm_model.specs.Entities.{Entity, kind_of, id_of}
 use Rattle.osm_model.specs.Objects.{EntityFault, kind_order, out_of_order, Object}
 
--- The last kind and the last id of each kind, of the objects so far.
-pub record Order : Type 0 where
-  pub kind : EntityKind
-  pub node_id : ℕ
-  pub way_id : ℕ
-  pub relation_id : ℕ
-
--- before the first object
-abbrev pub no_order : Order
-no_order = record { kind = kinds.Node; node_id = 0; way_id = 0; relation_id = 0 }
-
--- the order of kinds
+-- the order of kinds: nodes, then ways, then relations
 abbrev pub rank : EntityKind → ℕ
 rank kinds.Node = 0
 rank kinds.Way = 1
 rank kinds.Relation = 2
 
--- the last id of a kind
-abbrev pub last_id : Order → EntityKind → ℕ
-last_id order kinds.Node = order.node_id
-last_id order kinds.Way = order.way_id
-last_id order kinds.Relation = order.relation_id
+-- some of the objects is of a kind that comes after this one
+abbrev pub has_later_kind : EntityKind → List Entity → Bool
+has_later_kind kind entities = list_any (λ e. nat_lt (rank kind) (rank (kind_of e))) entities
 
--- the order behind one more object
-abbrev pub with_entity : Order → Entity → Order
-with_entity order (node n) = record order { kind = kinds.Node; node_id = n.id }
-with_entity order (way w) = record order { kind = kinds.Way; way_id = w.id }
-with_entity order (relation r) = record order { kind = kinds.Relation; relation_id = r.id }
+-- the ids of the objects of this kind, in the same order
+abbrev pub ids_of : EntityKind → List Entity → List ℕ
+ids_of kind entities = map id_of (filter (λ e. rank (kind_of e) == rank kind) entities)
 
--- the order behind these objects
-unfoldable pub order_behind : Order → List Entity → Order
-order_behind order [] = order
-order_behind order (e ∷ es) = order_behind (with_entity order e) es
+-- the id of the last object of this kind, and 0 where there is none
+abbrev pub last_id : EntityKind → List Entity → ℕ
+last_id kind entities = unwrap_or (last_or None (ids_of kind entities)) 0
 
--- the fault of an id of this kind behind the objects so far
-abbrev pub order_fault : Order → EntityKind → ℤ → Option EntityFault
-order_fault order kind id =
-    if nat_lt (rank kind) (rank order.kind) then Some kind_order
-    else (if int_le id (pos (last_id order kind)) then Some (out_of_order (last_id order kind) id) else None)
+-- The fault of an object of this kind and id behind these objects.
+abbrev pub order_fault : List Entity → EntityKind → ℤ → Option EntityFault
+order_fault before kind id =
+    if has_later_kind kind before then Some kind_order
+    else (if int_le id (pos (last_id kind before)) then Some (out_of_order (last_id kind before) id) else None)
 
--- an object in its place, or its first fault
-abbrev pub placed : Order → Object → Result Entity EntityFault
-placed order object = do
-  _ ← refuse (order_fault order object.kind object.id)
+-- an object behind these objects, or its first fault
+abbrev pub placed : List Entity → Object → Result Entity EntityFault
+placed before object = do
+  _ ← refuse (order_fault before object.kind object.id)
   object.entity
 
--- The objects in order, up to the first fault.
-unfoldable pub in_order : Order → List (Result Object EntityFault) → Reading Entity EntityFault
-in_order order [] = all_read
-in_order order (Err fault ∷ others) = stops_at fault
-in_order order (Ok object ∷ others) =
-    elim (placed order object) [
-      | Ok e ↦ then_reads e (in_order (with_entity order e) others)
+-- The objects in order, behind those before them, up to the first fault.
+unfoldable pub in_order : List Entity → List (Result Object EntityFault) → Reading Entity EntityFault
+in_order before [] = all_read
+in_order before (Err fault ∷ others) = stops_at fault
+in_order before (Ok object ∷ others) =
+    elim (placed before object) [
+      | Ok e ↦ then_reads e (in_order (before ++ e ∷ []) others)
       | Err fault ↦ stops_at fault
     ]
 
--- Behind objects of this order the kinds do not go back, and the ids of each kind rise.
-abbrev pub IsOrdered : Order → List Entity → Type 0
-IsOrdered order [] = ⊤
-IsOrdered order (e ∷ es) = (rank order.kind ≤ rank (kind_of e)) × (last_id order (kind_of e) < id_of e) × IsOrdered (with_entity order e) es
+-- The first object may stand before the second: its kind is no later one, and within one kind it has the smaller id.
+abbrev pub Precedes : Entity → Entity → Type 0
+Precedes d e = (rank (kind_of d) ≤ rank (kind_of e)) × (kind_of d ≡ kind_of e → id_of d < id_of e)
+
+-- Each id is above 0, and each object may stand before all later ones.
+abbrev pub IsRising : List Entity → Type 0
+IsRising [] = ⊤
+IsRising (e ∷ es) = (0 < id_of e) × AllByRecursion (λ later. Precedes e later) es × IsRising es

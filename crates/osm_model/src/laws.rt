@@ -9,7 +9,8 @@ ghost use Rattle.osm_model.specs.Blocks.{PrimitiveBlock, block};
 ghost use Rattle.osm_model.specs.Objects.{column, column_from, block_objects, int_sum, Object, EntityFault, told_entity, tag_runs, pairs_spelled, HasKeys, by_zero, with_list, behind_key};
 ghost use Rattle.osm_model.specs.Input.{input_fault, input_entities, block_fault, raw_entities, ReadsInput, good_frames, InputFault};
 ghost use Rattle.osm_model.specs.Reading.{Reading, with_front};
-ghost use Rattle.osm_model.specs.Order.{IsOrdered, no_order, Order, in_order, order_behind};
+ghost use Rattle.osm_model.specs.Order.{IsRising, in_order};
+ghost use Rattle.osm_model.specs.Entities.{Entity};
 
 /// What is read of bytes is a message in front and the first fault behind it, and nothing else is.
 pub fn one_reading_of_fields()
@@ -45,8 +46,8 @@ pub fn column_of_sums()
 
 /// Where objects stand in order, the order changes nothing of what they are, and what follows is in order behind them.
 pub fn objects_in_order()
-    ensures same { (order : Order) (objects : List (Result Object EntityFault)) → (in_order order objects).fault ≡ None → filter_map told_entity objects ≡ (in_order order objects).items }
-    ensures parts { (order : Order) (objects others : List (Result Object EntityFault)) → (in_order order objects).fault ≡ None → in_order order (objects ++ others) ≡ with_front (in_order order objects).items (in_order (order_behind order (in_order order objects).items) others) }
+    ensures same { (before : List Entity) (objects : List (Result Object EntityFault)) → (in_order before objects).fault ≡ None → filter_map told_entity objects ≡ (in_order before objects).items }
+    ensures parts { (before : List Entity) (objects others : List (Result Object EntityFault)) → (in_order before objects).fault ≡ None → in_order before (objects ++ others) ≡ with_front (in_order before objects).items (in_order (before ++ (in_order before objects).items) others) }
 {}
 
 /// An input is blobs without a fault, and then nothing or the first step that is broken; and that is what is told of it.
@@ -64,11 +65,11 @@ pub fn one_run_of_tags()
 
 /// The objects of a block without a fault are those that are read in order.
 pub fn entities_of_a_block()
-    ensures { (order : Order) (raw : List ℕ) (b : PrimitiveBlock) → block raw ≡ Ok b → block_fault order raw ≡ None → raw_entities raw ≡ (in_order order (block_objects b)).items }
+    ensures { (before : List Entity) (raw : List ℕ) (b : PrimitiveBlock) → block raw ≡ Ok b → block_fault before raw ≡ None → raw_entities raw ≡ (in_order before (block_objects b)).items }
 {}
 
-/// In a block, and in the whole input, kinds do not go back, and the ids of each kind rise.
+/// In the whole input, and in a block behind objects that rise, kinds do not go back, and the ids of each kind rise.
 pub fn objects_rise()
-    ensures in_a_block { (order : Order) (b : PrimitiveBlock) → IsOrdered order (in_order order (block_objects b)).items }
-    ensures in_the_input { (bytes : List ℕ) → IsOrdered no_order (input_entities bytes) }
+    ensures in_a_block { (before : List Entity) (b : PrimitiveBlock) → IsRising before → IsRising (before ++ (in_order before (block_objects b)).items) }
+    ensures in_the_input { (bytes : List ℕ) → IsRising (input_entities bytes) }
 {}
