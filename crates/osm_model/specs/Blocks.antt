@@ -44,12 +44,16 @@ pub record BlockHead : Type 0 where
   pub lat_offset : ℤ
   pub lon_offset : ℤ
 
--- the nanodegrees of a stored latitude and longitude
+-- the nanodegrees of a stored number
+abbrev pub nano : ℤ → ℤ → ℤ → ℤ
+nano offset granularity stored = offset +ℤ granularity *ℤ stored
+
+-- the nanodegrees of a stored latitude, and of a stored longitude
 abbrev pub lat_nano : BlockHead → ℤ → ℤ
-lat_nano head lat = head.lat_offset +ℤ head.granularity *ℤ lat
+lat_nano head lat = nano head.lat_offset head.granularity lat
 
 abbrev pub lon_nano : BlockHead → ℤ → ℤ
-lon_nano head lon = head.lon_offset +ℤ head.granularity *ℤ lon
+lon_nano head lon = nano head.lon_offset head.granularity lon
 
 -- the stored latitude and longitude lie on the earth
 abbrev pub is_coordinate : BlockHead → ℤ → ℤ → Bool
@@ -107,12 +111,6 @@ header_box raw = do
 abbrev pub strings_limit : ℕ
 strings_limit = 4194304
 
--- The granularity and the offsets of a PrimitiveBlock, or the first fault of its message.
-unfoldable pub block_head : List ℕ → Result BlockHead BlockFault
-block_head raw = do
-  parts ← told_as wire (message primitive_block raw)
-  Ok (record { granularity = int64 (unwrap_or (number_of 17 parts) 100); lat_offset = int64 (unwrap_or (number_of 19 parts) 0); lon_offset = int64 (unwrap_or (number_of 20 parts) 0) })
-
 -- the entries of a StringTable, or its first fault
 unfoldable pub strings_in : List ℕ → Result (List (List ℕ)) BlockFault
 strings_in table = do
@@ -122,18 +120,17 @@ strings_in table = do
   _ ← refuse (option_map not_text (position (λ entry. not (is_utf8 entry)) strings))
   Ok strings
 
--- The strings of a PrimitiveBlock, or the first fault up to them.
-unfoldable pub block_strings : List ℕ → Result (List (List ℕ)) BlockFault
-block_strings raw = do
-  parts ← told_as wire (message primitive_block raw)
-  table ← ok_or (once_of 1 parts) no_strings
-  strings_in table
+-- the strings of a PrimitiveBlock with these fields, or the first fault up to them
+abbrev pub strings_of : List Field → Result (List (List ℕ)) BlockFault
+strings_of parts = ok_or (once_of 1 parts) no_strings >>= strings_in
 
--- the groups of a PrimitiveBlock, or the first fault of its message
-unfoldable pub block_groups : List ℕ → Result (List (List ℕ)) BlockFault
-block_groups raw = do
-  parts ← told_as wire (message primitive_block raw)
-  Ok (bytes_of 2 parts)
+-- the granularity and the offsets of a PrimitiveBlock with these fields
+abbrev pub head_of : List Field → BlockHead
+head_of parts = record {
+  granularity = int64 (unwrap_or (number_of 17 parts) 100);
+  lat_offset = int64 (unwrap_or (number_of 19 parts) 0);
+  lon_offset = int64 (unwrap_or (number_of 20 parts) 0);
+}
 
 -- What a PrimitiveBlock has besides its objects.
 pub record PrimitiveBlock : Type 0 where
@@ -141,10 +138,17 @@ pub record PrimitiveBlock : Type 0 where
   pub strings : List (List ℕ)
   pub groups : List (List ℕ)
 
--- a PrimitiveBlock, or its first fault before its groups
+-- A PrimitiveBlock, or its first fault before its groups.
 unfoldable pub block : List ℕ → Result PrimitiveBlock BlockFault
 block raw = do
-  strings ← block_strings raw
-  head ← block_head raw
-  groups ← block_groups raw
-  Ok (record { head = head; strings = strings; groups = groups })
+  parts ← told_as wire (message primitive_block raw)
+  strings ← strings_of parts
+  Ok (record { head = head_of parts; strings = strings; groups = bytes_of 2 parts })
+
+-- The head of a PrimitiveBlock, or the first fault of its message.
+unfoldable pub block_head : List ℕ → Result BlockHead BlockFault
+block_head raw = told_as wire (message primitive_block raw) >>= λ parts. Ok (head_of parts)
+
+-- The strings of a PrimitiveBlock, or the first fault up to them.
+unfoldable pub block_strings : List ℕ → Result (List (List ℕ)) BlockFault
+block_strings raw = told_as wire (message primitive_block raw) >>= strings_of

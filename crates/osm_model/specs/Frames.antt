@@ -173,9 +173,9 @@ next_known read = elim (find is_known read.items) [
 ]
 
 -- Nothing is left, or bytes at this offset that begin with no blob.
-abbrev pub EndsAt : ℕ → List ℕ → Option FrameFaultAt → Type 0
-EndsAt at rest None = rest ≡ []
-EndsAt at rest (Some told) = (rest ≢ []) × (told.at ≡ at) × (frame_front at rest ≡ Err told.fault)
+abbrev pub FramesEnd : ℕ → List ℕ → Option FrameFaultAt → Type 0
+FramesEnd at rest None = rest ≡ []
+FramesEnd at rest (Some told) = (rest ≢ []) × (told.at ≡ at) × (frame_front at rest ≡ Err told.fault)
 
 -- What is read of the bytes at this offset is blobs in front, and the fault of what is left.
 pub record ReadsFrames (at : ℕ) (bytes : List ℕ) (read : Reading Frame FrameFaultAt) : Type 0 where
@@ -183,4 +183,4 @@ pub record ReadsFrames (at : ℕ) (bytes : List ℕ) (read : Reading Frame Frame
   pub rest : List ℕ
   pub whole : bytes ≡ front ++ rest
   pub spelled : AreFrames at front read.items
-  pub ended : EndsAt (at + length front) rest read.fault
+  pub ended : FramesEnd (at + length front) rest read.fault

@@ -1,8 +1,8 @@
 -- What a whole input spells: its first fault, its objects and its box. This project's profile of the "PBF Format".
-use Rattle.std.specs.Prelude.{◌≡◌, ◌≢◌, ℕ, true, List, [], ◌∷◌, ◌++◌, length, flat_map, filter_map, find, Option, Some, None, option_map, Result, Ok, Err, ⊤}
+use Rattle.std.specs.Prelude.{◌≡◌, ◌≢◌, ℕ, List, [], ◌∷◌, ◌++◌, length, flat_map, filter_map, slice_get, unwrap_or, Option, Some, None, option_map, Ok, Err, ⊤}
 use Rattle.std.specs.Option.{option_or}
 use Rattle.mf_base.specs.declared.place.Rect.{Rect}
-use Rattle.mf_base.specs.Steps.{fault_of}
+use Rattle.mf_base.specs.Steps.{fault_of, answer_of}
 use Rattle.osm_model.specs.Reading.{Reading, all_read, stops_at, then_reads}
 use Rattle.osm_model.specs.Frames.{Content, header, primitive, unread, Frame, FrameFault, FrameFaultAt, AreFrames, frame_front, frames}
 use Rattle.osm_model.specs.Blocks.{BlockFault, header_box, block}
@@ -50,12 +50,8 @@ abbrev pub entities_of : List Frame → List Entity
 entities_of fs = flat_map (λ (f : Frame). content_entities f.content) fs
 
 -- the box of what a blob holds
-abbrev pub box_or_none : Result (Option Rect) BlockFault → Option Rect
-box_or_none (Ok box) = box
-box_or_none (Err fault) = None
-
 abbrev pub content_box : Content → Option Rect
-content_box (header raw) = box_or_none (header_box raw)
+content_box (header raw) = unwrap_or (answer_of (header_box raw)) None
 content_box (primitive raw) = None
 content_box (unread kind) = None
 
@@ -88,7 +84,7 @@ input_entities bytes = entities_of (good_frames bytes)
 
 -- The box that an input gives: that of the first header with one.
 unfoldable pub input_box : List ℕ → Option Rect
-input_box bytes = find (λ box. true) (filter_map (λ (f : Frame). content_box f.content) (good_frames bytes))
+input_box bytes = slice_get (filter_map (λ (f : Frame). content_box f.content) (good_frames bytes)) 0
 
 -- The box of the words, or else that of the input.
 abbrev pub known_box : Option Rect → List ℕ → Option Rect

@@ -21,7 +21,7 @@ pub data EntityFault : Type 0 where
   columns : EntityFault
   -- no id, latitude or longitude
   missing : EntityFault
-  -- a sum of deltas, or a delta, is outside signed 64 bits
+  -- a sum of differences is outside signed 64 bits
   range : EntityFault
   -- a node behind a way or relation, or a way behind a relation
   kind_order : EntityFault

@@ -44,12 +44,12 @@ abbrev pub raw_blob : List ℕ → List ℕ
 raw_blob raw = blob_of "OSMData" (part 1 raw)
 
 -- a StringTable as the first field of its block
-abbrev pub strings_of : List Text → List ℕ
-strings_of texts = part 1 (flat_map (part 1) texts)
+abbrev pub string_field : List Text → List ℕ
+string_field texts = part 1 (flat_map (part 1) texts)
 
 -- a blob of strings and one group
 abbrev pub block_blob : List Text → List ℕ → List ℕ
-block_blob texts group = raw_blob (strings_of texts ++ part 2 group)
+block_blob texts group = raw_blob (string_field texts ++ part 2 group)
 
 -- the number -2^63 as a sint64
 abbrev pub least_number : List ℕ
@@ -166,7 +166,7 @@ short_texts = [] ∷ codes "k" ∷ hex "C3 A9" ∷ codes "vv" ∷ []
 -- three dense nodes: one with a tag, one without, one with two; granularity 1000, offsets -5 and 77 nanodegrees
 abbrev pub dense_three : List ℕ
 dense_three =
-    raw_blob (strings_of short_texts ++ part 2 (part 2 (hex "0A 03 04 06 02 42 03 14 09 0E 4A 03 02 02 02 52 09 01 02 00 00 03 01 02 00 00"))
+    raw_blob (string_field short_texts ++ part 2 (part 2 (hex "0A 03 04 06 02 42 03 14 09 0E 4A 03 02 02 02 52 09 01 02 00 00 03 01 02 00 00"))
     ++ hex "88 01 E8 07 98 01 FB" ++ replicate 8 0xFF ++ hex "01 A0 01 4D")
 
 -- what it spells

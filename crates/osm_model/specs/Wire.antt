@@ -5,7 +5,7 @@ use Rattle.std.specs.Int.{w64, cast_signed}
 use Rattle.mf_base.specs.Spelling.{IsVarint, high_run, sevens}
 use Rattle.mf_base.specs.Steps.{◌>>=◌, require, told_as}
 use Rattle.mf_base.specs.NumberReading.{varint_front}
-use Rattle.osm_model.specs.Reading.{Reading, all_read, stops_at, then_reads}
+use Rattle.osm_model.specs.Reading.{Reading, AreSpelled, all_read, stops_at, then_reads}
 
 -- The value of a field, under the name of its wire type: VARINT 0, I64 1, LEN 2, I32 5.
 pub data Value : Type 0 where
@@ -44,13 +44,11 @@ pub record SpellsField (f : Field) (b : List ℕ) : Type 0 where
 
 -- A message is the spellings of its fields, one after another.
 abbrev pub IsMessage : List ℕ → List Field → Type 0
-IsMessage b [] = b ≡ []
-IsMessage b (f ∷ fs) = (front : List ℕ) × (rest : List ℕ) × SpellsField f front × IsMessage rest fs × (b ≡ front ++ rest)
+IsMessage b fs = AreSpelled SpellsField b fs
 
 -- A packed list is the spellings of its numbers, one after another.
 abbrev pub IsPacked : List ℕ → List ℕ → Type 0
-IsPacked b [] = b ≡ []
-IsPacked b (n ∷ ns) = (front : List ℕ) × (rest : List ℕ) × IsVarint n front × IsPacked rest ns × (b ≡ front ++ rest)
+IsPacked b ns = AreSpelled IsVarint b ns
 
 -- Why the bytes begin with no field.
 pub data WireFault : Type 0 where
@@ -113,9 +111,9 @@ abbrev pub fields : List ℕ → Reading Field WireFault
 fields bytes = fields_behind 0 bytes
 
 -- Nothing is left, or bytes that begin with no field.
-abbrev pub EndsAt : List ℕ → Option WireFault → Type 0
-EndsAt rest None = rest ≡ []
-EndsAt rest (Some fault) = (rest ≢ []) × (field_front rest ≡ Err fault)
+abbrev pub FieldsEnd : List ℕ → Option WireFault → Type 0
+FieldsEnd rest None = rest ≡ []
+FieldsEnd rest (Some fault) = (rest ≢ []) × (field_front rest ≡ Err fault)
 
 -- What is read of the bytes is a message in front, and the fault of what is left.
 pub record ReadsFields (bytes : List ℕ) (read : Reading Field WireFault) : Type 0 where
@@ -123,7 +121,7 @@ pub record ReadsFields (bytes : List ℕ) (read : Reading Field WireFault) : Typ
   pub rest : List ℕ
   pub whole : bytes ≡ front ++ rest
   pub spelled : IsMessage front read.items
-  pub ended : EndsAt rest read.fault
+  pub ended : FieldsEnd rest read.fault
 
 -- a byte before the first of the runs
 abbrev pub before_first : ℕ → List (List ℕ) → List (List ℕ)

@@ -1,11 +1,11 @@
 //! Laws of the definitions, each on a function that does nothing.
 
-ghost use Rattle.std.specs.Prelude.{◌≡◌, ℕ, List, [], ◌∷◌, ◌++◌, take, length, pos, ◌+ℤ◌, ◌<◌, suc, ℤ, true, Option, Result, filter_map, slice_index_or};
+ghost use Rattle.std.specs.Prelude.{◌≡◌, ◌↔◌, Err, ℕ, List, [], ◌∷◌, ◌++◌, take, length, pos, ◌+ℤ◌, ◌<◌, suc, ℤ, true, Option, Result, filter_map, slice_index_or};
 ghost use Rattle.mf_base.specs.Spelling.{IsBytes};
 ghost use Rattle.osm_model.specs.Wire.{Field, WireFault, IsMessage, ReadsFields, fields, IsPacked, are_varints, packed_numbers};
-ghost use Rattle.osm_model.specs.Tables.{Table, FitsTable, message};
+ghost use Rattle.osm_model.specs.Tables.{Table, FitsTable, message, string_table, bytes_of};
 ghost use Rattle.osm_model.specs.Frames.{Frame, FrameFaultAt, ReadsFrames, frames};
-ghost use Rattle.osm_model.specs.Blocks.{PrimitiveBlock, block};
+ghost use Rattle.osm_model.specs.Blocks.{PrimitiveBlock, block, strings_in, too_many_strings};
 ghost use Rattle.osm_model.specs.Objects.{column, column_from, block_objects, int_sum, Object, EntityFault, told_entity, tag_runs, pairs_spelled, HasKeys, by_zero, with_list, behind_key};
 ghost use Rattle.osm_model.specs.Input.{input_fault, input_entities, block_fault, raw_entities, ReadsInput, good_frames, InputFault};
 ghost use Rattle.osm_model.specs.Reading.{Reading, with_front};
@@ -28,6 +28,11 @@ pub fn one_packed_list()
 pub fn one_message_of_a_table()
     ensures spelled { (table : Table) (bytes : List ℕ) (fs : List Field) → message table bytes ≡ Ok fs → IsMessage bytes fs × FitsTable table fs }
     ensures reads { (table : Table) (bytes : List ℕ) (fs : List Field) → IsMessage bytes fs → FitsTable table fs → message table bytes ≡ Ok fs }
+{}
+
+/// A string table is refused for the number of its entries exactly where they are more than the limit.
+pub fn strings_over_the_limit()
+    ensures { (table : List ℕ) (fs : List Field) → message string_table table ≡ Ok fs → ((strings_in table ≡ Err too_many_strings) ↔ (4194304 < length (bytes_of 1 fs))) }
 {}
 
 /// What is read of an input is blobs in front and the first fault behind them, and nothing else is.

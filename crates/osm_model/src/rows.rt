@@ -7,7 +7,7 @@ ghost use Rattle.osm_model.specs.Frames.{header, frames, next_known, frame_front
 ghost use Rattle.osm_model.specs.Blocks.{BlockFault, bad_box, required_feature, no_strings, not_text};
 ghost use Rattle.osm_model.specs.Objects.{EntityFault, mixed_group, columns, missing, range, kind_order, out_of_order, coordinate, key_without_value, string_index, member_kind};
 ghost use Rattle.osm_model.specs.Input.{input_fault, input_entities, input_box, known_box};
-ghost use Rattle.osm_model.specs.Samples.{hex, part, blob_of, header_blob, raw_blob, strings_of, least_number, half_of_range, in_frame, in_block, in_entity, at, at_zero, square, one_degree, node_at, way_of, header_raw, header_alone, data_blob, one_bench, with_byte, bench_tags, bench, bench_texts, plain_group, node_group, way_group, twice_five, bench_with_name, dense_three, dense_three_entities, ways_and_relation, ways_and_relation_entities, missing_node, missing_node_entities, ring_of_three_ways, forest_entities, water_tile, water_tile_entities, fault_before_limit};
+ghost use Rattle.osm_model.specs.Samples.{hex, part, blob_of, header_blob, raw_blob, string_field, least_number, half_of_range, in_frame, in_block, in_entity, at, at_zero, square, one_degree, node_at, way_of, header_raw, header_alone, data_blob, one_bench, with_byte, bench_tags, bench, bench_texts, plain_group, node_group, way_group, twice_five, bench_with_name, dense_three, dense_three_entities, ways_and_relation, ways_and_relation_entities, missing_node, missing_node_entities, ring_of_three_ways, forest_entities, water_tile, water_tile_entities, fault_before_limit};
 
 /// One bench, and a box of one degree each way.
 #[tactic(auto, unfolding(crate::proofs::Compute::compute))]
@@ -150,7 +150,7 @@ pub fn node_rows()
     ensures index { input_fault (with_byte 125 0x03) ≡ in_entity 73 string_index }
     ensures value_index { input_fault (data_blob (part 2 (hex "0A 01 02 42 01 00 4A 01 00 52 03 01 02 09"))) ≡ in_entity 0 string_index }
     ensures no_value { input_fault (with_byte 127 0x01) ≡ in_entity 73 key_without_value }
-    ensures wide_latitude { input_fault (raw_blob (strings_of bench_texts ++ part 2 (part 2 (hex "0A 02 02 00 42 14" ++ half_of_range ++ half_of_range ++ hex "4A 02 00 00")) ++ hex "88 01 00")) ≡ in_entity 0 range }
+    ensures wide_latitude { input_fault (raw_blob (string_field bench_texts ++ part 2 (part 2 (hex "0A 02 02 00 42 14" ++ half_of_range ++ half_of_range ++ hex "4A 02 00 00")) ++ hex "88 01 00")) ≡ in_entity 0 range }
 {}
 
 /// Ways and relations.
