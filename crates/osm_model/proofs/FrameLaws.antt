@@ -95,7 +95,7 @@ content_found kind b c e =
           ]
     ]
 
-length-big_endian : (n : ℕ) → length (big_endian 4 n) ≡ 4
+pub length-big_endian : (n : ℕ) → length (big_endian 4 n) ≡ 4
 unfolding big_endian
 length-big_endian n = length-bytes_high_first 4 n
 

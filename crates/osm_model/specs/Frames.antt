@@ -153,9 +153,13 @@ frames_behind at zero (b ∷ rest) =
       | Err fault ↦ stops_at (record { at = at; fault = fault })
     ]
 
+-- the blobs of bytes from this offset on, up to the first fault in one
+abbrev pub frames_at : ℕ → List ℕ → Reading Frame FrameFaultAt
+frames_at at bytes = frames_behind at 0 bytes
+
 -- the blobs of an input, up to the first fault in one
 abbrev pub frames : List ℕ → Reading Frame FrameFaultAt
-frames bytes = frames_behind 0 0 bytes
+frames bytes = frames_at 0 bytes
 
 -- a blob whose type is known
 abbrev pub is_known : Frame → Bool
@@ -171,6 +175,19 @@ next_known read = elim (find is_known read.items) [
   | Some f ↦ Ok (Some f)
   | None ↦ elim read.fault [ Some told ↦ Err told | None ↦ Ok None ]
 ]
+
+-- The bytes at this offset are blobs that are passed over: none is of a known type.
+pub record PassesOver (at : ℕ) (bytes : List ℕ) : Type 0 where
+  pub passed : List Frame
+  pub unknown : known_frames passed ≡ []
+  pub spelled : AreFrames at bytes passed
+
+-- The bytes at this offset are blobs that are passed over, and then the blob f, of a known type.
+pub record LeadsTo (at : ℕ) (bytes : List ℕ) (f : Frame) : Type 0 where
+  pub passed : List Frame
+  pub unknown : known_frames passed ≡ []
+  pub known : is_known f ≡ true
+  pub spelled : AreFrames at bytes (passed ++ f ∷ [])
 
 -- Nothing is left, or bytes at this offset that begin with no blob.
 abbrev pub FramesEnd : ℕ → List ℕ → Option FrameFaultAt → Type 0

@@ -1,10 +1,10 @@
 //! Laws of the definitions, each on a function that does nothing.
 
-ghost use Rattle.std.specs.Prelude.{◌≡◌, ◌↔◌, Err, ℕ, List, [], ◌∷◌, ◌++◌, take, length, pos, ◌+ℤ◌, ◌<◌, suc, ℤ, true, Option, Result, filter_map, slice_index_or};
+ghost use Rattle.std.specs.Prelude.{◌≡◌, ◌≤◌, ◌+◌, ◌↔◌, Err, ℕ, List, [], ◌∷◌, ◌++◌, take, length, pos, ◌+ℤ◌, ◌<◌, suc, ℤ, true, Option, Result, filter_map, slice_index_or};
 ghost use Rattle.mf_base.specs.Spelling.{IsBytes};
 ghost use Rattle.osm_model.specs.Wire.{Field, WireFault, IsMessage, ReadsFields, fields, IsPacked, are_varints, packed_numbers};
 ghost use Rattle.osm_model.specs.Tables.{Table, FitsTable, message, string_table, bytes_of};
-ghost use Rattle.osm_model.specs.Frames.{Frame, FrameFaultAt, ReadsFrames, frames};
+ghost use Rattle.osm_model.specs.Frames.{Content, SpellsFrame, LeadsTo, PassesOver, frames_at, next_known, Frame, FrameFaultAt, ReadsFrames, frames};
 ghost use Rattle.osm_model.specs.Blocks.{PrimitiveBlock, block, strings_in, too_many_strings};
 ghost use Rattle.osm_model.specs.Objects.{column, column_from, block_objects, int_sum, Object, EntityFault, told_entity, tag_runs, pairs_spelled, HasKeys, by_zero, with_list, behind_key};
 ghost use Rattle.osm_model.specs.Input.{input_fault, input_entities, block_fault, raw_entities, ReadsInput, good_frames, InputFault};
@@ -39,6 +39,15 @@ pub fn strings_over_the_limit()
 pub fn one_reading_of_frames()
     ensures reads { (bytes : List ℕ) → IsBytes bytes → ReadsFrames 0 bytes (frames bytes) }
     ensures only { (bytes : List ℕ) (read : Reading Frame FrameFaultAt) → ReadsFrames 0 bytes read → frames bytes ≡ read }
+{}
+
+/// The bytes that lead to a blob of a known type are those up to its end, and a blob takes about 32 MiB at most.
+pub fn next_blob()
+    ensures leads { (at : ℕ) (front rest : List ℕ) (f : Frame) → LeadsTo at front f → next_known (frames_at at (front ++ rest)) ≡ Ok (Some f) }
+    ensures led { (at : ℕ) (bytes : List ℕ) (f : Frame) → IsBytes bytes → next_known (frames_at at bytes) ≡ Ok (Some f) → (front : List ℕ) × (rest : List ℕ) × LeadsTo at front f × (bytes ≡ front ++ rest) }
+    ensures passes { (at : ℕ) (front rest : List ℕ) → PassesOver at front → next_known (frames_at at (front ++ rest)) ≡ next_known (frames_at (at + length front) rest) }
+    ensures passed { (at : ℕ) (bytes : List ℕ) → IsBytes bytes → next_known (frames_at at bytes) ≡ Ok None → PassesOver at bytes }
+    ensures size { (content : Content) (bytes : List ℕ) → SpellsFrame content bytes → length bytes ≤ 4 + 65535 + 33554432 }
 {}
 
 /// A number of a delta column is the sum of the differences up to it.
