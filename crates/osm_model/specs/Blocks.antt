@@ -11,30 +11,34 @@ use Rattle.osm_model.specs.Tables.{MessageFault, message, header_block, header_b
 
 -- Why a HeaderBlock or the head of a PrimitiveBlock is refused.
 pub data BlockFault : Type 0 where
+  -- a fault of the HeaderBlock, its bbox, the PrimitiveBlock or its StringTable as messages
   wire : MessageFault → BlockFault
-  -- the box lacks a side, a side is out of range, or a least is above its greatest
+  -- the bbox lacks a side, a side is not on the earth, left is above right, or bottom above top
   bad_box : BlockFault
   -- a required feature that this project does not know
   required_feature : BlockFault
+  -- the PrimitiveBlock has no StringTable
   no_strings : BlockFault
+  -- the StringTable has more than 4,194,304 entries
   too_many_strings : BlockFault
-  -- the first entry that is no UTF-8
+  -- the entry with this index is the first that is no UTF-8
   not_text : ℕ → BlockFault
 
 -- ---- places
 
--- the greatest latitude and longitude, in nanodegrees
+-- the greatest latitude, in nanodegrees
 abbrev pub latitude_limit : ℕ
 latitude_limit = 90000000000
 
+-- the greatest longitude, in nanodegrees
 abbrev pub longitude_limit : ℕ
 longitude_limit = 180000000000
 
--- nanodegrees within a limit on both sides of 0
+-- the nanodegrees lie within the limit on both sides of 0
 abbrev pub is_within : ℕ → ℤ → Bool
 is_within limit nano = nat_le (nat_abs nano) limit
 
--- microdegrees of nanodegrees, towards zero
+-- the microdegrees of nanodegrees, rounded towards zero
 abbrev pub micro : ℤ → ℤ
 micro nano = int_div nano (pos 1000)
 
@@ -44,14 +48,15 @@ pub record BlockHead : Type 0 where
   pub lat_offset : ℤ
   pub lon_offset : ℤ
 
--- the nanodegrees of a stored number
+-- the nanodegrees of a stored number: the offset, and granularity times the number
 abbrev pub nano : ℤ → ℤ → ℤ → ℤ
 nano offset granularity stored = offset +ℤ granularity *ℤ stored
 
--- the nanodegrees of a stored latitude, and of a stored longitude
+-- the nanodegrees of a stored latitude
 abbrev pub lat_nano : BlockHead → ℤ → ℤ
 lat_nano head lat = nano head.lat_offset head.granularity lat
 
+-- the nanodegrees of a stored longitude
 abbrev pub lon_nano : BlockHead → ℤ → ℤ
 lon_nano head lon = nano head.lon_offset head.granularity lon
 
@@ -65,17 +70,17 @@ place_of head lat lon = record { lat = micro (lat_nano head lat); lon = micro (l
 
 -- ---- the HeaderBlock
 
--- the sides of a box in nanodegrees are on the earth and in order
+-- the sides of a box, left, right, top and bottom in nanodegrees, are on the earth, left not above right and bottom not above top
 abbrev pub are_sides : ℤ → ℤ → ℤ → ℤ → Bool
 are_sides left right top bottom =
     is_within longitude_limit left && is_within longitude_limit right && is_within latitude_limit top && is_within latitude_limit bottom
     && int_le left right && int_le bottom top
 
--- a side of a HeaderBBox
+-- the side of a HeaderBBox in the field with this number, in nanodegrees
 abbrev pub side : ℕ → List Field → Result ℤ BlockFault
 side k sides = ok_or (option_map unzigzag_of (number_of k sides)) bad_box
 
--- the box of a HeaderBBox, in microdegrees
+-- the box of a HeaderBBox, in microdegrees, or its first fault
 unfoldable pub box_in : List ℕ → Result Rect BlockFault
 box_in bytes = do
   sides ← told_as wire (message header_bbox bytes)
@@ -86,14 +91,14 @@ box_in bytes = do
   _ ← require (are_sides left right top bottom) bad_box
   Ok (record { min_lat = micro bottom; min_lon = micro left; max_lat = micro top; max_lon = micro right })
 
--- the box of a bbox, where there is one
+-- the box of a bbox, where there is one, or its first fault
 abbrev pub box_where : Option (List ℕ) → Result (Option Rect) BlockFault
 box_where None = Ok None
 box_where (Some bytes) = do
   box ← box_in bytes
   Ok (Some box)
 
--- a required feature that this project knows
+-- this project knows the required feature
 abbrev pub is_known_feature : List ℕ → Bool
 is_known_feature feature = bytes_eq feature (codes "OsmSchema-V0.6") || bytes_eq feature (codes "DenseNodes")
 
@@ -124,7 +129,7 @@ strings_in table = do
 abbrev pub strings_of : List Field → Result (List (List ℕ)) BlockFault
 strings_of parts = ok_or (once_of 1 parts) no_strings >>= strings_in
 
--- the granularity and the offsets of a PrimitiveBlock with these fields
+-- the granularity and the offsets of a PrimitiveBlock with these fields: where they are absent 100, 0 and 0 nanodegrees
 abbrev pub head_of : List Field → BlockHead
 head_of parts = record {
   granularity = int64 (unwrap_or (number_of 17 parts) 100);

@@ -7,7 +7,7 @@ use Rattle.osm_model.specs.Reading.{Reading, all_read, stops_at, then_reads}
 use Rattle.osm_model.specs.Wire.{Field, IsMessage}
 use Rattle.osm_model.specs.Tables.{MessageFault, FitsTable, message, blob_header, blob, once_of, number_of}
 
--- What a blob holds: the raw bytes of a HeaderBlock or of a PrimitiveBlock, or what its type says, unread.
+-- What a blob holds, by its type: the raw bytes of a HeaderBlock or of a PrimitiveBlock, or bytes that are not read, of which the type alone is kept.
 pub data Content : Type 0 where
   header : List ℕ → Content
   primitive : List ℕ → Content
@@ -18,23 +18,25 @@ pub record Frame : Type 0 where
   pub at : ℕ
   pub content : Content
 
--- the type of a blob
+-- the type that the BlobHeader tells
 abbrev pub type_of : Content → List ℕ
 type_of (header raw) = codes "OSMHeader"
 type_of (primitive raw) = codes "OSMData"
 type_of (unread kind) = kind
 
--- a BlobHeader has at most this many bytes, a Blob at most this many, and a blob begins before this offset
+-- a BlobHeader has at most this many bytes
 abbrev pub header_limit : ℕ
 header_limit = 65535
 
+-- a Blob has at most this many bytes
 abbrev pub blob_limit : ℕ
 blob_limit = 33554432
 
+-- each blob begins before this offset in the input, in bytes
 abbrev pub offset_limit : ℕ
 offset_limit = 2 ^ 62
 
--- the first field of compressed data: zlib, lzma, bzip2, lz4 or zstd
+-- the number of the first field with compressed data: of zlib, lzma, bzip2, lz4 or zstd
 abbrev pub compressed_of : List Field → Option ℕ
 compressed_of fs = find (λ k. nat_le 3 k && nat_le k 7) (map (λ (f : Field). f.number) fs)
 
@@ -61,7 +63,7 @@ HoldsContent (header raw) b = IsBlob raw b
 HoldsContent (primitive raw) b = IsBlob raw b
 HoldsContent (unread kind) b = (kind ≢ codes "OSMHeader") × (kind ≢ codes "OSMData")
 
--- The bytes spell a blob: four bytes of length, the BlobHeader, the Blob.
+-- The bytes spell a blob: the length of the BlobHeader in four bytes, the highest first, then the BlobHeader, then the Blob.
 pub record SpellsFrame (content : Content) (b : List ℕ) : Type 0 where
   pub head : List ℕ
   pub body : List ℕ
@@ -84,24 +86,30 @@ pub data FrameFault : Type 0 where
   truncated : ℕ → FrameFault
   -- the length is above 65,535
   header_length : FrameFault
+  -- a fault of the BlobHeader message
   header_wire : MessageFault → FrameFault
+  -- the BlobHeader has no type
   no_type : FrameFault
+  -- the BlobHeader has no datasize
   no_size : FrameFault
   -- datasize is above 33,554,432
   blob_size : FrameFault
+  -- a fault of the Blob message
   blob_wire : MessageFault → FrameFault
-  -- the first field of compressed data
+  -- there is compressed data, first in the field with this number
   compressed : ℕ → FrameFault
+  -- the Blob has no raw data
   no_data : FrameFault
-  -- raw_size told a number that is not that of the bytes found
+  -- raw_size tells the first number, and raw has as many bytes as the second
   raw_size : ℕ → ℕ → FrameFault
 
--- so many bytes, where they are there
+-- the first so many bytes, where there are as many
 abbrev pub whole_part : ℕ → List ℕ → Result (List ℕ) FrameFault
 whole_part count bytes = do
   _ ← require (nat_le count (length bytes)) (truncated (length bytes))
   Ok (take count bytes)
 
+-- the fault of a raw_size that is there and is not the number of bytes found
 abbrev pub raw_size_fault : Option ℕ → ℕ → Option FrameFault
 raw_size_fault None found = None
 raw_size_fault (Some told) found = if told == found then None else Some (raw_size told found)
@@ -138,7 +146,7 @@ frame_front at bytes = do
   content ← content_in kind body
   Ok (content, 4 + head_size + body_size)
 
--- A fault of a blob, with the blob's offset.
+-- A fault of a blob, with the offset of the blob.
 pub record FrameFaultAt : Type 0 where
   pub at : ℕ
   pub fault : FrameFault

@@ -1,4 +1,4 @@
--- What a whole input spells: its first fault, its objects and its box. This project's profile of the "PBF Format".
+-- What a whole input spells: its first fault, its objects and its box. This project's profile of the OpenStreetMap wiki, "PBF Format".
 use Rattle.std.specs.Prelude.{◌≡◌, ◌≢◌, ℕ, List, [], ◌∷◌, ◌++◌, length, flat_map, filter_map, slice_get, unwrap_or, Option, Some, None, option_map, Ok, Err, ⊤}
 use Rattle.std.specs.Option.{option_or}
 use Rattle.mf_base.specs.declared.place.Rect.{Rect}
@@ -10,13 +10,13 @@ use Rattle.osm_model.specs.Entities.{Entity}
 use Rattle.osm_model.specs.Objects.{EntityFault, block_objects, block_entities}
 use Rattle.osm_model.specs.Order.{in_order}
 
--- Why an input is refused.
+-- Why an input is refused: a blob, what a block has before its objects, or an object.
 pub data InputCode : Type 0 where
   of_frame : FrameFault → InputCode
   of_block : BlockFault → InputCode
   of_entity : EntityFault → InputCode
 
--- The first fault of an input, with the offset of its blob.
+-- The first fault of an input, with the offset of its blob in the input, in bytes.
 pub record InputFault : Type 0 where
   pub at : ℕ
   pub code : InputCode
@@ -49,7 +49,7 @@ content_entities (unread kind) = []
 abbrev pub entities_of : List Frame → List Entity
 entities_of fs = flat_map (λ (f : Frame). content_entities f.content) fs
 
--- the box of what a blob holds
+-- the box of what a blob holds: that of a HeaderBlock with a bbox
 abbrev pub content_box : Content → Option Rect
 content_box (header raw) = unwrap_or (answer_of (header_box raw)) None
 content_box (primitive raw) = None

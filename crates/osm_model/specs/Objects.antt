@@ -14,28 +14,30 @@ use Rattle.osm_model.specs.Entities.{Member, Entity, node, way, relation}
 
 -- Why an object is refused, or the group or the nodes it stands in.
 pub data EntityFault : Type 0 where
+  -- a fault of the group or of the object as messages
   wire : MessageFault → EntityFault
-  -- two kinds of objects in one group
+  -- the group has objects of two kinds
   mixed_group : EntityFault
   -- lists that belong together differ in number
   columns : EntityFault
-  -- no id, latitude or longitude
+  -- the object has no id, or a node no latitude or longitude
   missing : EntityFault
   -- a sum of differences is outside signed 64 bits
   range : EntityFault
   -- a node behind a way or relation, or a way behind a relation
   kind_order : EntityFault
-  -- the id, told second, is not above the last of its kind
+  -- the last id of the kind, and the id of the object, which is not above it
   out_of_order : ℕ → ℤ → EntityFault
   -- a latitude beyond 90 or a longitude beyond 180 degrees
   coordinate : EntityFault
+  -- the keys and the values differ in number
   key_without_value : EntityFault
   -- an index not below the number of strings
   string_index : EntityFault
   -- a member that is neither node, way nor relation
   member_kind : EntityFault
 
--- An object before its place in the order is looked at: its kind and id, and what it is or its first fault behind the id.
+-- An object before its place in the order is looked at: its kind and id, and what it is or its first fault behind the order.
 pub record Object : Type 0 where
   pub kind : EntityKind
   pub id : ℤ
@@ -47,20 +49,20 @@ pub record Object : Type 0 where
 abbrev pub string_at : List (List ℕ) → ℕ → Result (List ℕ) EntityFault
 string_at strings k = ok_or (slice_get strings k) string_index
 
--- the tag of a key's and a value's index
+-- the tag of the index of a key and the index of a value
 abbrev pub tag_at : List (List ℕ) → ℕ × ℕ → Result Tag EntityFault
 tag_at strings pair = do
   key ← string_at strings pair.0
   value ← string_at strings pair.1
   Ok (key, value)
 
--- the tags of a list of keys and a list of values
-unfoldable pub tags_of : List (List ℕ) → List ℕ → List ℕ → Result (Tags) EntityFault
+-- the tags of a list of indices of keys and one of values
+unfoldable pub tags_of : List (List ℕ) → List ℕ → List ℕ → Result Tags EntityFault
 tags_of strings keys vals = do
   _ ← require (length keys == length vals) key_without_value
   each (tag_at strings) (zip keys vals)
 
--- ---- numbers that are told as differences
+-- ---- delta columns
 
 -- the sum of signed numbers
 abbrev pub int_sum : List ℤ → ℤ
@@ -79,17 +81,17 @@ column_from base ds = map (λ sum. base +ℤ sum) (column ds)
 -- ---- plain nodes
 
 -- the node of an id, a stored latitude and longitude and its tags
-abbrev pub node_of : BlockHead → ℤ → ℤ → ℤ → Result (Tags) EntityFault → Result Entity EntityFault
+abbrev pub node_of : BlockHead → ℤ → ℤ → ℤ → Result Tags EntityFault → Result Entity EntityFault
 node_of head id lat lon told = do
   _ ← require (is_coordinate head lat lon) coordinate
   tags ← told
   Ok (node (record { id = nat_abs id; place = place_of head lat lon; tags = tags }))
 
--- a signed number that must be there
+-- the sint64 in the field with this number, which must be there
 abbrev pub signed : ℕ → List Field → Result ℤ EntityFault
 signed k parts = ok_or (option_map unzigzag_of (number_of k parts)) missing
 
--- the object of a Node message, or its first fault up to the id
+-- the object of a Node message, or its first fault before the order
 unfoldable pub node_object : PrimitiveBlock → List ℕ → Result Object EntityFault
 node_object in_block bytes = do
   parts ← told_as wire (message node_table bytes)
@@ -100,7 +102,7 @@ node_object in_block bytes = do
 
 -- ---- dense nodes
 
--- How a run of keys and values ends: by a 0 in the place of a key, behind a key, or with the list.
+-- How a run of keys and values ends: by a 0 in the place of a key, behind this key, with the list.
 pub data RunEnd : Type 0 where
   by_zero : RunEnd
   behind_key : ℕ → RunEnd
@@ -135,14 +137,14 @@ pairs_spelled pairs = flat_map (λ pair. pair.0 ∷ pair.1 ∷ []) pairs
 abbrev pub HasKeys : List (ℕ × ℕ) → Type 0
 HasKeys pairs = AllByRecursion (λ (pair : ℕ × ℕ). 0 < pair.0) pairs
 
--- what a run's end tells, behind the tags of its pairs
-abbrev pub end_of_run : List (List ℕ) → RunEnd → Tags → Result (Tags) EntityFault
+-- the tags of a run with this end, behind those of its pairs
+abbrev pub end_of_run : List (List ℕ) → RunEnd → Tags → Result Tags EntityFault
 end_of_run strings by_zero tags = Ok tags
 end_of_run strings (behind_key k) tags = string_at strings k >>= λ key. Err key_without_value
 end_of_run strings with_list tags = Err columns
 
--- the tags of a run
-unfoldable pub run_tags : List (List ℕ) → TagRun → Result (Tags) EntityFault
+-- the tags of a run, or its first fault in the order of keys_vals
+unfoldable pub run_tags : List (List ℕ) → TagRun → Result Tags EntityFault
 run_tags strings run = do
   tags ← each (tag_at strings) run.pairs
   end_of_run strings run.ends tags
@@ -190,17 +192,17 @@ dense_objects in_block bytes =
 -- ---- ways
 
 -- the way of an id, its refs and its tags
-abbrev pub way_of : ℤ → List ℤ → Result (Tags) EntityFault → Result Entity EntityFault
+abbrev pub way_of : ℤ → List ℤ → Result Tags EntityFault → Result Entity EntityFault
 way_of id refs told = do
   tags ← told
   _ ← require (list_all is_signed_64 refs) range
   Ok (way (record { id = nat_abs id; refs = refs; tags = tags }))
 
--- the id of a way or a relation
+-- the id of a way or a relation, an int64, which must be there
 abbrev pub int64_id : List Field → Result ℤ EntityFault
 int64_id parts = ok_or (option_map int64 (number_of 1 parts)) missing
 
--- the object of a Way message, or its first fault up to the id
+-- the object of a Way message, or its first fault before the order
 unfoldable pub way_object : PrimitiveBlock → List ℕ → Result Object EntityFault
 way_object in_block bytes = do
   parts ← told_as wire (message way_table bytes)
@@ -231,13 +233,13 @@ members_of strings roles ids types = do
   each (member_at strings) (zip_three roles (column ids) types)
 
 -- the relation of an id, its members and its tags
-abbrev pub relation_of : ℤ → Result (List Member) EntityFault → Result (Tags) EntityFault → Result Entity EntityFault
+abbrev pub relation_of : ℤ → Result (List Member) EntityFault → Result Tags EntityFault → Result Entity EntityFault
 relation_of id told_members told_tags = do
   tags ← told_tags
   members ← told_members
   Ok (relation (record { id = nat_abs id; members = members; tags = tags }))
 
--- the object of a Relation message, or its first fault up to the id
+-- the object of a Relation message, or its first fault before the order
 unfoldable pub relation_object : PrimitiveBlock → List ℕ → Result Object EntityFault
 relation_object in_block bytes = do
   parts ← told_as wire (message relation_table bytes)
@@ -259,12 +261,12 @@ objects_at in_block k bytes =
 abbrev pub field_objects : PrimitiveBlock → Field → List (Result Object EntityFault)
 field_objects in_block f = elim (counted_bytes f.value) [ None ↦ [] | Some bytes ↦ objects_at in_block f.number bytes ]
 
--- the numbers are one number, however often
+-- no two of the numbers differ
 abbrev pub are_one : List ℕ → Bool
 are_one [] = true
 are_one (k ∷ ks) = list_all (λ j. j == k) ks
 
--- the kinds of objects that a group has, each as often as it has objects or lists of them
+-- the numbers 1 to 5 of the fields of a group, each as often as it stands
 abbrev pub kinds_in : List Field → List ℕ
 kinds_in parts = filter (λ k. nat_le 1 k && nat_le k 5) (map (λ (f : Field). f.number) parts)
 

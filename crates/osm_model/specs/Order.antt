@@ -1,4 +1,4 @@
--- The order of the objects of an input: the OpenStreetMap wiki, "PBF Format", on files that are sorted by type and then by id. This project's profile asks for that order.
+-- The order of the objects of an input: this project's profile of the OpenStreetMap wiki, "PBF Format", on sorted files.
 use Rattle.std.specs.Prelude.{◌≡◌, ◌<◌, ◌≤◌, ⊤, ℕ, Bool, ◌==◌, nat_lt, if◌then◌else◌, List, [], ◌∷◌, ◌++◌, map, filter, Option, Some, None, unwrap_or, Result, Ok, Err, ℤ, pos, int_le}
 use Rattle.std.specs.List.{list_any, last_or, AllByRecursion}
 use Rattle.mf_base.specs.Steps.{◌>>=◌, refuse}

@@ -36,10 +36,11 @@ part k bytes = (8 * k + 2) ∷ length bytes ∷ bytes
 abbrev pub blob_of : String → List ℕ → List ℕ
 blob_of kind body = (0 ∷ 0 ∷ 0 ∷ (length (codes kind) + 4) ∷ []) ++ part 1 (codes kind) ++ (0x18 ∷ length body ∷ []) ++ body
 
--- a blob of a HeaderBlock, and one of a PrimitiveBlock
+-- a blob of a HeaderBlock of these bytes
 abbrev pub header_blob : List ℕ → List ℕ
 header_blob raw = blob_of "OSMHeader" (part 1 raw)
 
+-- a blob of a PrimitiveBlock of these bytes
 abbrev pub raw_blob : List ℕ → List ℕ
 raw_blob raw = blob_of "OSMData" (part 1 raw)
 
@@ -61,13 +62,15 @@ half_of_range = replicate 9 0x80 ++ hex "01"
 
 -- ---- how an input is refused
 
--- in the blob at this offset, in its block, in an object of it
+-- a fault of the blob at this offset
 abbrev pub in_frame : ℕ → FrameFault → Option InputFault
 in_frame at fault = Some (record { at = at; code = of_frame fault })
 
+-- a fault of what the block in the blob at this offset has before its objects
 abbrev pub in_block : ℕ → BlockFault → Option InputFault
 in_block at fault = Some (record { at = at; code = of_block fault })
 
+-- a fault of an object in the blob at this offset
 abbrev pub in_entity : ℕ → EntityFault → Option InputFault
 in_entity at fault = Some (record { at = at; code = of_entity fault })
 
@@ -77,6 +80,7 @@ in_entity at fault = Some (record { at = at; code = of_entity fault })
 abbrev pub at : ℤ → ℤ → Place
 at lat lon = record { lat = lat; lon = lon }
 
+-- the place (0, 0)
 abbrev pub at_zero : Place
 at_zero = at (pos 0) (pos 0)
 
@@ -88,15 +92,19 @@ square side = record { min_lat = pos 0; min_lon = pos 0; max_lat = pos side; max
 abbrev pub one_degree : Rect
 one_degree = record { min_lat = negsuc 999999; min_lon = negsuc 999999; max_lat = pos 1000000; max_lon = pos 1000000 }
 
+-- a node of this id, place and tags
 abbrev pub node_at : ℕ → Place → Tags → Entity
 node_at id place tags = node (record { id = id; place = place; tags = tags })
 
+-- a way of this id, these refs and tags
 abbrev pub way_of : ℕ → List ℤ → Tags → Entity
 way_of id refs tags = way (record { id = id; refs = refs; tags = tags })
 
+-- a member of this kind, id and role
 abbrev pub member_of : EntityKind → ℤ → Text → Member
 member_of kind id role = record { kind = kind; id = id; role = role }
 
+-- a relation of this id, these members and tags
 abbrev pub relation_of : ℕ → List Member → Tags → Entity
 relation_of id members tags = relation (record { id = id; members = members; tags = tags })
 
@@ -130,6 +138,7 @@ one_bench = header_alone ++ data_blob bench_group
 abbrev pub with_byte : ℕ → ℕ → List ℕ
 with_byte n byte = set one_bench n byte
 
+-- amenity=bench
 abbrev pub bench_tags : Tags
 bench_tags = (codes "amenity", codes "bench") ∷ []
 
@@ -137,10 +146,11 @@ bench_tags = (codes "amenity", codes "bench") ∷ []
 abbrev pub bench : ℕ → Entity
 bench id = node_at id at_zero bench_tags
 
--- the bench as a plain node, and a node with id 1 and no tags
+-- the bench as a plain node
 abbrev pub plain_group : List ℕ
 plain_group = part 1 (hex "08 02 12 01 01 1A 01 02 40 00 48 00")
 
+-- a plain node with id 1 at (0, 0) without tags
 abbrev pub node_group : List ℕ
 node_group = part 1 (hex "08 02 40 00 48 00")
 
@@ -218,10 +228,11 @@ ring_of_three_ways =
     ++ block_blob ([] ∷ codes "type" ∷ codes "multipolygon" ∷ codes "landuse" ∷ codes "forest" ∷ codes "outer" ∷ codes "inner" ∷ [])
     (part 4 (hex "08 01 12 02 01 03 1A 02 02 04 42 04 05 05 05 06 4A 04 02 02 02 02 52 04 01 01 01 01"))
 
--- a way of these nodes without tags, and a way as a member
+-- a way of these nodes without tags
 abbrev pub way_through : ℕ → List ℕ → Entity
 way_through id refs = way_of id (map pos refs) []
 
+-- a way as a member with this role
 abbrev pub way_member : ℕ → String → Member
 way_member id role = member_of EntityKind.Way (pos id) (codes role)
 

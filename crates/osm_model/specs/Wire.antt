@@ -14,22 +14,23 @@ pub data Value : Type 0 where
   len : List ℕ → Value
   i32 : List ℕ → Value
 
+-- A field: its number, and its value.
 pub record Field : Type 0 where
   pub number : ℕ
   pub value : Value
 
--- the code of a wire type
+-- the number of a wire type
 abbrev pub wire_type : Value → ℕ
 wire_type (varint n) = 0
 wire_type (i64 bytes) = 1
 wire_type (len bytes) = 2
 wire_type (i32 bytes) = 5
 
--- the number before a field's value
+-- the key before a field's value: 8 times the field's number, and the wire type
 abbrev pub key_of : Field → ℕ
 key_of f = 8 * f.number + wire_type f.value
 
--- The bytes spell the value: a varint, so many bytes, or the varint of a length and so many bytes.
+-- The bytes spell the value: a varint, eight or four bytes, or the varint of a length and so many bytes.
 abbrev pub SpellsValue : Value → List ℕ → Type 0
 SpellsValue (varint n) b = IsVarint n b
 SpellsValue (i64 bytes) b = (length bytes ≡ 8) × (b ≡ bytes)
@@ -52,28 +53,30 @@ IsPacked b ns = AreSpelled IsVarint b ns
 
 -- Why the bytes begin with no field.
 pub data WireFault : Type 0 where
-  -- a varint is misspelt
+  -- a varint is cut by the end, or is no number below 2^64 in ten bytes
   varint_fault : WireFault
-  -- a field number or a wire type that there is not
+  -- a field number or a wire type that does not exist
   kind_fault : WireFault
   -- the bytes end within a value
   length_fault : WireFault
 
--- the first varint, for a field
+-- the varint that the bytes begin with, and how many bytes it takes
 abbrev pub number_front : List ℕ → Result (ℕ × ℕ) WireFault
 number_front bytes = told_as (λ fault. varint_fault) (varint_front bytes)
 
--- so many bytes from a place on, and where they end
+-- a value of so many bytes from a place on, and where it ends
 abbrev pub bytes_front : (List ℕ → Value) → ℕ → ℕ → List ℕ → Result (Value × ℕ) WireFault
 bytes_front kind count at bytes = do
   _ ← require (nat_le (at + count) (length bytes)) length_fault
   Ok (kind (take count (drop at bytes)), at + count)
 
+-- a VARINT value, and how many bytes it takes
 abbrev pub varint_value : List ℕ → Result (Value × ℕ) WireFault
 varint_value bytes = do
   n ← number_front bytes
   Ok (varint n.0, n.1)
 
+-- a LEN value, behind the varint of its length, and how many bytes it takes
 abbrev pub len_value : List ℕ → Result (Value × ℕ) WireFault
 len_value bytes = do
   size ← number_front bytes
@@ -123,7 +126,7 @@ pub record ReadsFields (bytes : List ℕ) (read : Reading Field WireFault) : Typ
   pub spelled : IsMessage front read.items
   pub ended : FieldsEnd rest read.fault
 
--- a byte before the first of the runs
+-- the runs with one more byte before the first
 abbrev pub before_first : ℕ → List (List ℕ) → List (List ℕ)
 before_first b [] = (b ∷ []) ∷ []
 before_first b (run ∷ runs) = (b ∷ run) ∷ runs
@@ -133,7 +136,7 @@ unfoldable pub runs : List ℕ → List (List ℕ)
 runs [] = []
 runs (b ∷ rest) = elim (nat_lt b 128) [ true ↦ (b ∷ []) ∷ runs rest | false ↦ before_first b (runs rest) ]
 
--- the run is a varint
+-- the run is a varint: at most ten bytes, of which the last alone has no top bit, and a number below 2^64
 abbrev pub is_varint : List ℕ → Bool
 is_varint run = (length run == suc (high_run run)) && nat_le (length run) 10 && nat_lt (sevens run) (2 ^ 64)
 
@@ -141,7 +144,7 @@ is_varint run = (length run == suc (high_run run)) && nat_le (length run) 10 && 
 abbrev pub are_varints : List ℕ → Bool
 are_varints bytes = list_all is_varint (runs bytes)
 
--- the numbers of whole varints
+-- the numbers of whole varints, seven bits of each byte, the lowest first
 abbrev pub packed_numbers : List ℕ → List ℕ
 packed_numbers bytes = map sevens (runs bytes)
 

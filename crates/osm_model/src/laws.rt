@@ -41,7 +41,7 @@ pub fn one_reading_of_frames()
     ensures only { (bytes : List ℕ) (read : Reading Frame FrameFaultAt) → ReadsFrames 0 bytes read → frames bytes ≡ read }
 {}
 
-/// The bytes that lead to a blob of a known type are those up to its end, and a blob takes about 32 MiB at most.
+/// The bytes that lead to a blob of a known type are those up to its end. A blob takes at most 4 bytes of length, the longest BlobHeader and the longest Blob.
 pub fn next_blob()
     ensures leads { (at : ℕ) (front rest : List ℕ) (f : Frame) → LeadsTo at front f → next_known (frames_at at (front ++ rest)) ≡ Ok (Some f) }
     ensures led { (at : ℕ) (bytes : List ℕ) (f : Frame) → IsBytes bytes → next_known (frames_at at bytes) ≡ Ok (Some f) → (front : List ℕ) × (rest : List ℕ) × LeadsTo at front f × (bytes ≡ front ++ rest) }
