@@ -1,7 +1,8 @@
 //! Laws of the definitions, each on a function that does nothing.
 
-ghost use Rattle.std.specs.Prelude.{◌≡◌, ◌≤◌, ◌+◌, ◌↔◌, Err, ℕ, List, [], ◌∷◌, ◌++◌, take, length, pos, ◌+ℤ◌, ◌<◌, suc, ℤ, true, Option, Result, filter_map, slice_index_or};
+ghost use Rattle.std.specs.Prelude.{◌≡◌, ◌||◌, ◌==◌, if◌then◌else◌, nat_lt, ◌≤◌, ◌+◌, ◌↔◌, Err, ℕ, List, [], ◌∷◌, ◌++◌, take, length, pos, ◌+ℤ◌, ◌<◌, suc, ℤ, true, Option, Result, filter_map, slice_index_or};
 ghost use Rattle.mf_base.specs.Spelling.{IsBytes};
+ghost use Rattle.mf_base.specs.declared.kind.EntityKind.{EntityKind};
 ghost use Rattle.osm_model.specs.Wire.{Field, WireFault, IsMessage, ReadsFields, fields, IsPacked, are_varints, packed_numbers};
 ghost use Rattle.osm_model.specs.Tables.{Table, FitsTable, message, string_table, bytes_of};
 ghost use Rattle.osm_model.specs.Frames.{Content, SpellsFrame, LeadsTo, PassesOver, frames_at, next_known, Frame, FrameFaultAt, ReadsFrames, frames};
@@ -9,8 +10,8 @@ ghost use Rattle.osm_model.specs.Blocks.{PrimitiveBlock, block, strings_in, too_
 ghost use Rattle.osm_model.specs.Objects.{column, column_from, block_objects, int_sum, Object, EntityFault, told_entity, tag_runs, pairs_spelled, HasKeys, by_zero, with_list, behind_key};
 ghost use Rattle.osm_model.specs.Input.{input_fault, input_entities, block_fault, raw_entities, ReadsInput, good_frames, InputFault};
 ghost use Rattle.osm_model.specs.Reading.{Reading, with_front};
-ghost use Rattle.osm_model.specs.Order.{IsRising, in_order};
-ghost use Rattle.osm_model.specs.Entities.{Entity};
+ghost use Rattle.osm_model.specs.Order.{IsRising, in_order, rank, last_id, has_later_kind};
+ghost use Rattle.osm_model.specs.Entities.{Entity, kind_of, id_of};
 
 /// What is read of bytes is a message in front and the first fault behind it, and nothing else is.
 pub fn one_reading_of_fields()
@@ -62,6 +63,12 @@ pub fn column_of_sums()
 pub fn objects_in_order()
     ensures same { (before : List Entity) (objects : List (Result Object EntityFault)) → (in_order before objects).fault ≡ None → filter_map told_entity objects ≡ (in_order before objects).items }
     ensures parts { (before : List Entity) (objects others : List (Result Object EntityFault)) → (in_order before objects).fault ≡ None → in_order before (objects ++ others) ≡ with_front (in_order before objects).items (in_order (before ++ (in_order before objects).items) others) }
+{}
+
+/// One more object is the last of its kind, and changes nothing else of the order.
+pub fn one_more_object()
+    ensures last { (kind : EntityKind) (before : List Entity) (e : Entity) → last_id kind (before ++ e ∷ []) ≡ (if rank (kind_of e) == rank kind then id_of e else last_id kind before) }
+    ensures later { (kind : EntityKind) (before : List Entity) (e : Entity) → has_later_kind kind (before ++ e ∷ []) ≡ (has_later_kind kind before || nat_lt (rank kind) (rank (kind_of e))) }
 {}
 
 /// An input is blobs without a fault, and then nothing or the first step that is broken; and that is what is told of it.
