@@ -1,8 +1,10 @@
 -- Objects in order rise.
 use Rattle.std.proofs.Common.{◌≡◌, ◌==◌, ◌||◌, ℕ, ◌<◌, ◌≤◌, List, [], ◌∷◌, ◌++◌, refl, sym, ap, subst, ◌∙◌, arith, inl, inr, true, false, Bool, cond, Result, Ok, Err, Option, Some, None, ℤ, pos, negsuc, nat_lt, append_assoc, append-nil}
-use Rattle.std.specs.Prelude.{nat_abs, int_le, map, unwrap_or, filter}
+use Rattle.std.specs.Prelude.{⊤, suc, AllPairs, nat_abs, int_le, map, unwrap_or, filter}
 use Rattle.std.specs.List.{AllByRecursion, last_or}
 use Rattle.std.proofs.lemmas.Bool.{leb-false, ltb-false, false≢true}
+use Rattle.std.proofs.lemmas.List.Elements.{All-head, All-tail, All-nil, All-cons, All-from_recursion, recursion_from_All}
+use Rattle.std.proofs.lemmas.List.Kept.{AllPairs-cons}
 use Rattle.mf_base.specs.declared.kind.EntityKind.{EntityKind}
 use Rattle.mf_base.specs.Steps.{refuse}
 use Rattle.mf_base.proofs.StepLaws.{bind_ok, refuse_ok, chosen}
@@ -15,6 +17,33 @@ use Rattle.osm_model.specs.Order.{rank, has_later_kind, ids_of, last_id, order_f
 use Rattle.osm_model.proofs.TableLaws.{some_no_none}
 use Rattle.osm_model.proofs.OrderLaws.{in_order-nil, in_order-err, in_order-refused, in_order-next}
 use Rattle.osm_model.proofs.TellingLaws.{Consistent, AllTell, block_tell}
+
+-- each id is above 0, and each object may stand before all that follow: by recursion on the list
+abbrev Rises : List Entity → Type 0
+Rises [] = ⊤
+Rises (e ∷ es) = (0 < id_of e) × AllByRecursion (λ later. Precedes e later) es × Rises es
+
+precedes_later : (e : Entity) (es : List Entity) → AllPairs Precedes (e ∷ es) → AllByRecursion (λ later. Precedes e later) es
+precedes_later e es pairs = recursion_from_All (Precedes e) es (λ k d within. pairs 0 (suc k) d (omega arith) (omega (arith, within)))
+
+pairs_behind : (e : Entity) (es : List Entity) → AllPairs Precedes (e ∷ es) → AllPairs Precedes es
+pairs_behind e es pairs i j d less within = pairs (suc i) (suc j) d (omega (arith, less)) (omega (arith, within))
+
+rises : (es : List Entity) → IsRising es → Rises es
+rises [] h = tt
+rises (e ∷ es) h = (All-head (λ x. 0 < id_of x) e es h.0, precedes_later e es h.1, rises es (All-tail (λ x. 0 < id_of x) e es h.0, pairs_behind e es h.1))
+
+no_pairs : AllPairs Precedes []
+no_pairs i j d less within = absurd (omega (arith, within))
+
+is_rising : (es : List Entity) → Rises es → IsRising es
+is_rising [] h = (All-nil (λ x. 0 < id_of x), no_pairs)
+is_rising (e ∷ es) h =
+    let others = is_rising es h.2 in
+    (All-cons (λ x. 0 < id_of x) e es h.0 others.0, AllPairs-cons Precedes e es (All-from_recursion (Precedes e) es h.1) others.1)
+
+pub rising_nil : IsRising []
+rising_nil = (All-nil (λ x. 0 < id_of x), no_pairs)
 
 below_id : (id : ℤ) (n : ℕ) → int_le id (pos n) ≡ false → n < nat_abs id
 below_id (pos m) n e = leb-false m n e
@@ -65,7 +94,7 @@ last_behind o kind es = unwrap_or (last_or o (ids_of kind es)) 0
 abbrev AllBelow : EntityKind → ℕ → List Entity → Option ℕ → Type 0
 AllBelow kind n es o = OfKindAbove kind (unwrap_or o 0) es → last_behind o kind es < n → (unwrap_or o 0 < n) × OfKindBelow kind n es
 
-all_below : (kind : EntityKind) (n : ℕ) (es : List Entity) (o : Option ℕ) → IsRising es → AllBelow kind n es o
+all_below : (kind : EntityKind) (n : ℕ) (es : List Entity) (o : Option ℕ) → Rises es → AllBelow kind n es o
 all_below kind n [] o rising above h = (h, tt)
 all_below kind n (d ∷ ds) o rising above h = go (λ p. all_below kind n ds p rising.2) (rank (kind_of d) == rank kind) refl h
   where
@@ -80,11 +109,11 @@ all_below kind n (d ∷ ds) o rising above h = go (λ p. all_below kind n ds p r
         let (here, others) = later o above.1 least in
         (here, ((λ k. absurd (false≢true (sym e ∙ ap (λ j. rank j == rank kind) k ∙ same_rank kind))), others))
 
-above_none : (kind : EntityKind) (es : List Entity) → IsRising es → OfKindAbove kind 0 es
+above_none : (kind : EntityKind) (es : List Entity) → Rises es → OfKindAbove kind 0 es
 above_none kind [] rising = tt
 above_none kind (e ∷ es) rising = ((λ k. rising.0), above_none kind es rising.2)
 
-below_last : (kind : EntityKind) (n : ℕ) (es : List Entity) → IsRising es → last_id kind es < n → OfKindBelow kind n es
+below_last : (kind : EntityKind) (n : ℕ) (es : List Entity) → Rises es → last_id kind es < n → OfKindBelow kind n es
 below_last kind n es rising h = (all_below kind n es None rising (above_none kind es rising) h).1
 
 order_parts : (before : List Entity) (kind : EntityKind) (id : ℤ) → order_fault before kind id ≡ None → (has_later_kind kind before ≡ false) × (last_id kind before < nat_abs id)
@@ -107,11 +136,11 @@ all_with : (P : Entity → Type 0) (xs : List Entity) (y : Entity) → AllByRecu
 all_with P [] y h k = (k, tt)
 all_with P (x ∷ xs) y h k = (h.0, all_with P xs y h.1 k)
 
-rising_with : (es : List Entity) (e : Entity) → IsRising es → 0 < id_of e → AllByRecursion (λ d. Precedes d e) es → IsRising (es ++ e ∷ [])
+rising_with : (es : List Entity) (e : Entity) → Rises es → 0 < id_of e → AllByRecursion (λ d. Precedes d e) es → Rises (es ++ e ∷ [])
 rising_with [] e rising some h = (some, tt, tt)
 rising_with (d ∷ ds) e rising some h = (rising.0, all_with (Precedes d) ds e rising.1 h.0, rising_with ds e rising.2 some h.1)
 
-placed_rises : (before : List Entity) (object : Object) (e : Entity) → IsRising before → Consistent object → placed before object ≡ Ok e → IsRising (before ++ e ∷ [])
+placed_rises : (before : List Entity) (object : Object) (e : Entity) → Rises before → Consistent object → placed before object ≡ Ok e → Rises (before ++ e ∷ [])
 placed_rises before object e rising told h =
     let (u, tested, rest) = bind_ok (refuse (order_fault before object.kind object.id)) (λ v. object.entity) e h in
     let parts = order_parts before object.kind object.id (refuse_ok (order_fault before object.kind object.id) u tested) in
@@ -120,17 +149,17 @@ placed_rises before object e rising told h =
     let last : last_id (kind_of e) before < id_of e = subst (λ n. last_id (kind_of e) before < n) (sym same.1) (subst (λ k. last_id k before < nat_abs object.id) (sym same.0) parts.1) in
     rising_with before e rising (omega (arith, last)) (precede before e ranks (below_last (kind_of e) (id_of e) before rising last))
 
-pub in_order-rises : (objects : List (Result Object EntityFault)) (before : List Entity) → IsRising before → AllTell objects → IsRising (before ++ (in_order before objects).items)
-in_order-rises [] before rising h = subst (λ (r : Reading Entity EntityFault). IsRising (before ++ r.items)) (sym (in_order-nil before)) (subst IsRising (sym (append-nil before)) rising)
-in_order-rises (Err fault ∷ others) before rising h = subst (λ (r : Reading Entity EntityFault). IsRising (before ++ r.items)) (sym (in_order-err before fault others)) (subst IsRising (sym (append-nil before)) rising)
+pub in_order-rises : (objects : List (Result Object EntityFault)) (before : List Entity) → Rises before → AllTell objects → Rises (before ++ (in_order before objects).items)
+in_order-rises [] before rising h = subst (λ (r : Reading Entity EntityFault). Rises (before ++ r.items)) (sym (in_order-nil before)) (subst Rises (sym (append-nil before)) rising)
+in_order-rises (Err fault ∷ others) before rising h = subst (λ (r : Reading Entity EntityFault). Rises (before ++ r.items)) (sym (in_order-err before fault others)) (subst Rises (sym (append-nil before)) rising)
 in_order-rises (Ok object ∷ others) before rising h = go (λ o k. in_order-rises others o k h.1) (placed before object) refl
   where
-    go : ((o : List Entity) → IsRising o → IsRising (o ++ (in_order o others).items)) → (r : Result Entity EntityFault) → placed before object ≡ r → IsRising (before ++ (in_order before (Ok object ∷ others)).items)
-    go later (Err fault) e = subst (λ (r : Reading Entity EntityFault). IsRising (before ++ r.items)) (sym (in_order-refused before object others fault e)) (subst IsRising (sym (append-nil before)) rising)
+    go : ((o : List Entity) → Rises o → Rises (o ++ (in_order o others).items)) → (r : Result Entity EntityFault) → placed before object ≡ r → Rises (before ++ (in_order before (Ok object ∷ others)).items)
+    go later (Err fault) e = subst (λ (r : Reading Entity EntityFault). Rises (before ++ r.items)) (sym (in_order-refused before object others fault e)) (subst Rises (sym (append-nil before)) rising)
     go later (Ok entity) e =
         let more : List Entity = (in_order (before ++ entity ∷ []) others).items in
-        let behind : IsRising ((before ++ entity ∷ []) ++ more) = later (before ++ entity ∷ []) (placed_rises before object entity rising (h.0 object refl) e) in
-        subst (λ (r : Reading Entity EntityFault). IsRising (before ++ r.items)) (sym (in_order-next before object others entity e)) (subst IsRising (append_assoc before (entity ∷ []) more) behind)
+        let behind : Rises ((before ++ entity ∷ []) ++ more) = later (before ++ entity ∷ []) (placed_rises before object entity rising (h.0 object refl) e) in
+        subst (λ (r : Reading Entity EntityFault). Rises (before ++ r.items)) (sym (in_order-next before object others entity e)) (subst Rises (append_assoc before (entity ∷ []) more) behind)
 
 pub block-rises : (before : List Entity) (b : PrimitiveBlock) → IsRising before → IsRising (before ++ (in_order before (block_objects b)).items)
-block-rises before b rising = in_order-rises (block_objects b) before rising (block_tell b)
+block-rises before b rising = is_rising (before ++ (in_order before (block_objects b)).items) (in_order-rises (block_objects b) before (rises before rising) (block_tell b))

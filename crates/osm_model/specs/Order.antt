@@ -1,6 +1,6 @@
 -- The order of the objects of an input: this project's profile of the OpenStreetMap wiki, "PBF Format", on sorted files.
-use Rattle.std.specs.Prelude.{◌≡◌, ◌<◌, ◌≤◌, ⊤, ℕ, Bool, ◌==◌, nat_lt, if◌then◌else◌, List, [], ◌∷◌, ◌++◌, map, filter, Option, Some, None, unwrap_or, Result, Ok, Err, ℤ, pos, int_le}
-use Rattle.std.specs.List.{list_any, last_or, AllByRecursion}
+use Rattle.std.specs.Prelude.{◌≡◌, ◌<◌, ◌≤◌, ℕ, Bool, ◌==◌, nat_lt, if◌then◌else◌, List, [], ◌∷◌, ◌++◌, map, filter, Option, Some, None, unwrap_or, Result, Ok, Err, ℤ, pos, int_le}
+use Rattle.std.specs.List.{list_any, last_or, All, AllPairs}
 use Rattle.mf_base.specs.Steps.{◌>>=◌, refuse}
 use Rattle.mf_base.specs.declared.kind.EntityKind.{EntityKind}
 use Rattle.mf_base.specs.declared.kind.EntityKind.TheVariants as kinds
@@ -48,11 +48,10 @@ in_order before (Ok object ∷ others) =
       | Err fault ↦ stops_at fault
     ]
 
--- The first object may stand before the second: its kind is no later one, and within one kind it has the smaller id.
+-- The first object may stand before the second: its kind is no later one, and where both are of one kind it has the smaller id.
 abbrev pub Precedes : Entity → Entity → Type 0
 Precedes d e = (rank (kind_of d) ≤ rank (kind_of e)) × (kind_of d ≡ kind_of e → id_of d < id_of e)
 
--- Each id is above 0, and each object may stand before all later ones.
+-- Each id is above 0, and of any two objects the first may stand before the second.
 abbrev pub IsRising : List Entity → Type 0
-IsRising [] = ⊤
-IsRising (e ∷ es) = (0 < id_of e) × AllByRecursion (λ later. Precedes e later) es × IsRising es
+IsRising es = All (λ e. 0 < id_of e) es × AllPairs Precedes es

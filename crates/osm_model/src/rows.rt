@@ -122,6 +122,9 @@ pub fn place_rows()
     ensures corner { input_entities (data_blob (part 1 (hex "08 02 40 80 A4 A7 DA 06 48 FF C7 CE B4 0D"))) ≡ node_at 1 (at (pos 90000000) (negsuc 179999999)) [] ∷ [] }
     ensures beyond_south { input_fault (data_blob (part 1 (hex "08 02 40 81 A4 A7 DA 06 48 00"))) ≡ in_entity 0 coordinate }
     ensures beyond_north { input_fault (data_blob (part 1 (hex "08 02 40 82 A4 A7 DA 06 48 00"))) ≡ in_entity 0 coordinate }
+    ensures nanodegree_north { input_fault (raw_blob (string_field bench_texts ++ part 2 (part 1 (hex "08 02 40 80 A4 A7 DA 06 48 00")) ++ hex "98 01 01")) ≡ in_entity 0 coordinate }
+    ensures nanodegree_east { input_fault (raw_blob (string_field bench_texts ++ part 2 (part 1 (hex "08 02 40 00 48 80 C8 CE B4 0D")) ++ hex "A0 01 01")) ≡ in_entity 0 coordinate }
+    ensures east { input_entities (raw_blob (string_field bench_texts ++ part 2 (part 1 (hex "08 02 40 00 48 80 C8 CE B4 0D")))) ≡ node_at 1 (at (pos 0) (pos 180000000)) [] ∷ [] }
     ensures before_tags { input_fault (data_blob (part 1 (hex "08 02 12 01 01 40 82 A4 A7 DA 06 48 00"))) ≡ in_entity 0 coordinate }
 {}
 
