@@ -40,6 +40,10 @@ blob_of kind body = (0 ∷ 0 ∷ 0 ∷ (length (codes kind) + 4) ∷ []) ++ part
 abbrev pub header_blob : List ℕ → List ℕ
 header_blob raw = blob_of "OSMHeader" (part 1 raw)
 
+-- a header with a bbox of these sides, left, right, top and bottom, each a sint64 of nanodegrees in hexadecimal digits
+abbrev pub boxed : String → String → String → String → List ℕ
+boxed left right top bottom = header_blob (part 1 (hex "08" ++ hex left ++ hex "10" ++ hex right ++ hex "18" ++ hex top ++ hex "20" ++ hex bottom))
+
 -- a blob of a PrimitiveBlock of these bytes
 abbrev pub raw_blob : List ℕ → List ℕ
 raw_blob raw = blob_of "OSMData" (part 1 raw)
@@ -91,6 +95,10 @@ square side = record { min_lat = pos 0; min_lon = pos 0; max_lat = pos side; max
 -- one degree each way
 abbrev pub one_degree : Rect
 one_degree = record { min_lat = negsuc 999999; min_lon = negsuc 999999; max_lat = pos 1000000; max_lon = pos 1000000 }
+
+-- 90 degrees north and south, 180 east and west
+abbrev pub whole_earth : Rect
+whole_earth = record { min_lat = negsuc 89999999; min_lon = negsuc 179999999; max_lat = pos 90000000; max_lon = pos 180000000 }
 
 -- a node of this id, place and tags
 abbrev pub node_at : ℕ → Place → Tags → Entity

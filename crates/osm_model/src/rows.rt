@@ -7,7 +7,7 @@ ghost use Rattle.osm_model.specs.Frames.{header, frames, next_known, frame_front
 ghost use Rattle.osm_model.specs.Blocks.{BlockFault, bad_box, required_feature, no_strings, not_text};
 ghost use Rattle.osm_model.specs.Objects.{EntityFault, mixed_group, columns, missing, range, kind_order, out_of_order, coordinate, key_without_value, string_index, member_kind};
 ghost use Rattle.osm_model.specs.Input.{input_fault, input_entities, input_box, known_box};
-ghost use Rattle.osm_model.specs.Samples.{hex, part, blob_of, header_blob, raw_blob, string_field, least_number, half_of_range, in_frame, in_block, in_entity, at, at_zero, square, one_degree, node_at, way_of, header_raw, header_alone, data_blob, one_bench, with_byte, bench_tags, bench, bench_texts, plain_group, node_group, way_group, twice_five, bench_with_name, dense_three, dense_three_entities, ways_and_relation, ways_and_relation_entities, missing_node, missing_node_entities, ring_of_three_ways, forest_entities, water_tile, water_tile_entities, fault_before_limit};
+ghost use Rattle.osm_model.specs.Samples.{hex, part, boxed, whole_earth, blob_of, header_blob, raw_blob, string_field, least_number, half_of_range, in_frame, in_block, in_entity, at, at_zero, square, one_degree, node_at, way_of, header_raw, header_alone, data_blob, one_bench, with_byte, bench_tags, bench, bench_texts, plain_group, node_group, way_group, twice_five, bench_with_name, dense_three, dense_three_entities, ways_and_relation, ways_and_relation_entities, missing_node, missing_node_entities, ring_of_three_ways, forest_entities, water_tile, water_tile_entities, fault_before_limit};
 
 /// One bench, and a box of one degree each way.
 #[tactic(auto, unfolding(crate::proofs::Compute::compute))]
@@ -80,11 +80,17 @@ pub fn blob_rows()
 pub fn header_block_rows()
     ensures no_box { input_fault (header_blob []) ≡ None }
     ensures no_box_told { input_box (header_blob []) ≡ None }
-    ensures zero_box { input_fault (header_blob (part 1 (hex "08 00 10 00 18 00 20 00"))) ≡ None }
-    ensures zero_box_told { input_box (header_blob (part 1 (hex "08 00 10 00 18 00 20 00"))) ≡ Some (square 0) }
-    ensures first_box { input_box (header_blob (part 1 (hex "08 00 10 00 18 00 20 00")) ++ header_alone) ≡ Some (square 0) }
+    ensures zero_box { input_fault (boxed "00" "00" "00" "00") ≡ None }
+    ensures zero_box_told { input_box (boxed "00" "00" "00" "00") ≡ Some (square 0) }
+    ensures first_box { input_box (boxed "00" "00" "00" "00" ++ header_alone) ≡ Some (square 0) }
     ensures no_sides { input_fault (header_blob (part 1 [] ++ part 4 (codes "x"))) ≡ in_block 0 bad_box }
-    ensures wrong_box { input_fault (header_blob (part 1 (hex "08 0A 10 08 18 04 20 04"))) ≡ in_block 0 bad_box }
+    ensures earth { input_box (boxed "FF 9F B0 8D BD 0A" "80 A0 B0 8D BD 0A" "80 90 D8 C6 9E 05" "FF 8F D8 C6 9E 05") ≡ Some whole_earth }
+    ensures beyond_west { input_fault (boxed "81 A0 B0 8D BD 0A" "00" "00" "00") ≡ in_block 0 bad_box }
+    ensures beyond_east { input_fault (boxed "00" "82 A0 B0 8D BD 0A" "00" "00") ≡ in_block 0 bad_box }
+    ensures beyond_north { input_fault (boxed "00" "00" "82 90 D8 C6 9E 05" "00") ≡ in_block 0 bad_box }
+    ensures beyond_south { input_fault (boxed "00" "00" "00" "81 90 D8 C6 9E 05") ≡ in_block 0 bad_box }
+    ensures left_above_right { input_fault (boxed "0A" "08" "04" "04") ≡ in_block 0 bad_box }
+    ensures bottom_above_top { input_fault (boxed "00" "00" "04" "08") ≡ in_block 0 bad_box }
     ensures two_boxes { input_fault (header_blob (part 1 [] ++ part 1 [])) ≡ in_block 0 (BlockFault.wire (twice 1)) }
     ensures feature { input_fault (with_byte 60 0x37) ≡ in_block 0 required_feature }
 {}
