@@ -57,6 +57,7 @@ pub fn blob_header_rows()
     ensures bad_form { input_fault (hex "00 00 00 03 08 00 80") ≡ in_frame 0 (header_wire (form 1)) }
     ensures bad_varint { input_fault (hex "00 00 00 0B 18" ++ replicate 9 0x80 ++ hex "02") ≡ in_frame 0 (header_wire (MessageFault.wire varint_fault)) }
     ensures last_size { input_fault (hex "00 00 00 08 0A 01 58 18 FF 01 18 00") ≡ None }
+    ensures longer_spelling { input_fault (hex "00 00 00 06 0A 01 58 18 80 00") ≡ None }
     ensures no_header { input_fault (hex "00 00 00 00") ≡ in_frame 0 no_type }
     ensures untyped { input_fault (hex "00 00 00 02 18 00") ≡ in_frame 0 no_type }
     ensures no_datasize { input_fault (hex "00 00 00 03 0A 01 78") ≡ in_frame 0 no_size }
@@ -66,6 +67,20 @@ pub fn blob_header_rows()
     ensures cut_blob { input_fault (hex "00 00 00 05 0A 01 58 18 05 00 00 00") ≡ in_frame 0 (truncated 3) }
     ensures nearest { frame_front (2 ^ 62 - 1) header_alone ≡ Ok (header header_raw, 73) }
     ensures far { frame_front (2 ^ 62) header_alone ≡ Err too_long }
+{}
+
+/// Fields of messages: those that are passed over, their numbers and their spellings.
+#[tactic(auto, unfolding(crate::proofs::Compute::compute))]
+pub fn field_rows()
+    ensures passed_over { input_fault (header_blob (hex "79 01 02 03 04 05 06 07 08 7D 01 02 03 04 78 80 00")) ≡ None }
+    ensures cut_i64 { input_fault (header_blob (hex "79 01 02 03 04 05 06 07")) ≡ in_block 0 (BlockFault.wire (MessageFault.wire length_fault)) }
+    ensures cut_i32 { input_fault (header_blob (hex "7D 01 02 03")) ≡ in_block 0 (BlockFault.wire (MessageFault.wire length_fault)) }
+    ensures greatest_number { input_fault (header_blob (hex "F8 FF FF FF 0F 00")) ≡ None }
+    ensures greater_number { input_fault (header_blob (hex "80 80 80 80 10 00")) ≡ in_block 0 (BlockFault.wire (MessageFault.wire kind_fault)) }
+    ensures greatest_varint { input_fault (header_blob (hex "78" ++ replicate 9 0xFF ++ hex "01")) ≡ None }
+    ensures eleven_bytes { input_fault (header_blob (hex "78" ++ replicate 10 0x80 ++ hex "00")) ≡ in_block 0 (BlockFault.wire (MessageFault.wire varint_fault)) }
+    ensures other_form { input_fault (header_blob (hex "20 00")) ≡ in_block 0 (BlockFault.wire (form 4)) }
+    ensures cut_packed { input_fault (data_blob (part 3 (hex "08 01 42 02 02 80"))) ≡ in_entity 0 (EntityFault.wire (MessageFault.wire varint_fault)) }
 {}
 
 /// Why a Blob is refused.
@@ -114,6 +129,7 @@ pub fn order_rows()
     ensures way_of_a_blob_before { input_fault (data_blob (part 3 (hex "08 05")) ++ data_blob (part 3 (hex "08 05"))) ≡ in_entity 43 (out_of_order 5 (pos 5)) }
     ensures relation_falls { input_fault (data_blob (part 4 (hex "08 05") ++ part 4 (hex "08 04"))) ≡ in_entity 0 (out_of_order 5 (pos 4)) }
     ensures id_zero { input_fault (with_byte 116 0x00) ≡ in_entity 73 (out_of_order 0 (pos 0)) }
+    ensures way_below { input_fault (data_blob (part 3 (hex "08" ++ replicate 9 0xFF ++ hex "01"))) ≡ in_entity 0 (out_of_order 0 (negsuc 0)) }
     ensures id_below { input_fault (with_byte 116 0x01) ≡ in_entity 73 (out_of_order 0 (negsuc 0)) }
 {}
 
@@ -139,6 +155,9 @@ pub fn place_rows()
 pub fn group_rows()
     ensures mixed { input_fault (data_blob (node_group ++ part 3 (hex "08 02 42 00"))) ≡ in_entity 0 mixed_group }
     ensures changesets_mixed { input_fault (data_blob (part 5 [] ++ way_group)) ≡ in_entity 0 mixed_group }
+    ensures plain_and_dense { input_fault (data_blob (node_group ++ part 2 (hex "0A 01 04 42 01 00 4A 01 00"))) ≡ in_entity 0 mixed_group }
+    ensures strange_field { input_fault (data_blob (part 6 [] ++ way_group)) ≡ None }
+    ensures empty_group { input_fault (data_blob way_group ++ data_blob []) ≡ None }
     ensures changesets { input_fault (data_blob (part 5 (hex "FF"))) ≡ None }
     ensures dense_twice { input_fault (data_blob (part 2 (hex "0A 01 02 42 01 00 4A 01 00") ++ part 2 (hex "0A 01 04 42 01 00 4A 01 00"))) ≡ in_entity 0 (EntityFault.wire (twice 2)) }
     ensures keys_twice { input_fault (data_blob (part 3 (hex "08 01 12 00 12 01 80"))) ≡ in_entity 0 (EntityFault.wire (twice 2)) }
@@ -160,6 +179,11 @@ pub fn node_rows()
     ensures index { input_fault (with_byte 125 0x03) ≡ in_entity 73 string_index }
     ensures value_index { input_fault (data_blob (part 2 (hex "0A 01 02 42 01 00 4A 01 00 52 03 01 02 09"))) ≡ in_entity 0 string_index }
     ensures no_value { input_fault (with_byte 127 0x01) ≡ in_entity 73 key_without_value }
+    ensures lone_key_index { input_fault (data_blob (part 2 (hex "0A 01 02 42 01 00 4A 01 00 52 01 09"))) ≡ in_entity 0 string_index }
+    ensures zero_as_value { input_entities (data_blob (part 2 (hex "0A 01 02 42 01 00 4A 01 00 52 03 01 00 00"))) ≡ node_at 1 at_zero ((codes "amenity", []) ∷ []) ∷ [] }
+    ensures runs_without_nodes { input_fault (data_blob (part 2 (hex "52 01 00"))) ≡ in_entity 0 columns }
+    ensures wide_id { input_fault (data_blob (part 2 (hex "0A 14" ++ half_of_range ++ half_of_range ++ hex "42 02 00 00 4A 02 00 00"))) ≡ in_entity 0 range }
+    ensures wide_longitude { input_fault (raw_blob (string_field bench_texts ++ part 2 (part 2 (hex "0A 02 02 00 42 02 00 00 4A 14" ++ half_of_range ++ half_of_range)) ++ hex "88 01 00")) ≡ in_entity 0 range }
     ensures wide_latitude { input_fault (raw_blob (string_field bench_texts ++ part 2 (part 2 (hex "0A 02 02 00 42 14" ++ half_of_range ++ half_of_range ++ hex "4A 02 00 00")) ++ hex "88 01 00")) ≡ in_entity 0 range }
 {}
 
@@ -175,6 +199,7 @@ pub fn way_and_relation_rows()
     ensures no_keys { input_fault (data_blob (part 3 (hex "08 01 1A 01 01"))) ≡ in_entity 0 key_without_value }
     ensures tags_before_refs { input_fault (data_blob (part 3 (hex "08 01 12 01 01 42 14" ++ half_of_range ++ half_of_range))) ≡ in_entity 0 key_without_value }
     ensures tags_before_members { input_fault (data_blob (part 4 (hex "08 01 12 01 01 42 01 01"))) ≡ in_entity 0 key_without_value }
+    ensures wide_member { input_fault (data_blob (part 4 (hex "08 01 42 02 01 01 4A 14" ++ half_of_range ++ half_of_range ++ hex "52 02 01 03"))) ≡ in_entity 0 range }
     ensures role_before_kind { input_fault (data_blob (part 4 (hex "08 01 42 01 09 4A 01 02 52 01 03"))) ≡ in_entity 0 string_index }
     ensures strange_member { input_fault (data_blob (part 4 (hex "08 02 42 01 01 4A 01 02 52 01 03"))) ≡ in_entity 0 member_kind }
     ensures many_types { input_fault (data_blob (part 4 (hex "08 01 42 01 01 4A 01 02 52 02 00 00"))) ≡ in_entity 0 columns }
