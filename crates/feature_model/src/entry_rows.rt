@@ -1,44 +1,57 @@
-//! Entries and choices on small inputs.
+//! Entries of mappings on small inputs.
 
-ghost use Rattle.std.specs.Prelude.{◌≡◌, map, Some, None, true, false, codes, pos, negsuc, [], ◌∷◌, ◌++◌, replicate};
-ghost use Rattle.feature_model.specs.Mapping.{KeptValue, kept_by};
-ghost use Rattle.feature_model.specs.Choice.{choice, layer_of};
-ghost use Rattle.feature_model.specs.Samples.{tag, entry, benches, water};
+ghost use Rattle.std.specs.Prelude.{◌≡◌, map, Some, None, Ok, Err, true, false, codes, [], ◌∷◌, replicate};
+ghost use Rattle.mf_base.specs.declared.kind.List as which;
+ghost use Rattle.feature_model.specs.Mapping.{Entry};
+ghost use Rattle.feature_model.specs.Entries.{MappingFault, entry_behind, mapping_told, one_poi};
+ghost use Rattle.feature_model.specs.Samples.{entry, poi_mapping, water};
 
-/// A value that is literally the text of a kind does not match the kind, only the first pair of a key counts, and a kind reads its range.
+/// One word: the key ends before the first `=`, and the zoom level begins after the last `@`.
 #[tactic(auto, unfolding(crate::proofs::Compute::compute))]
-pub fn kinds_of_values()
-    ensures literally { kept_by (entry (codes "a") (codes "%b") 5) (tag (codes "a") (codes "%b")) ≡ None }
-    ensures literal_text { kept_by (entry (codes "a") (codes "%s") 5) (tag (codes "a") (codes "%s")) ≡ Some (KeptValue.text (codes "%s")) }
-    ensures first_pair { kept_by (entry (codes "a") (codes "b") 5) ((codes "a", codes "c") ∷ (codes "a", codes "b") ∷ []) ≡ None }
-    ensures bytes { map (λ v. kept_by (entry (codes "a") (codes "%b") 5) (tag (codes "a") v)) (codes "-128" ∷ codes "-129" ∷ codes "127" ∷ codes "128" ∷ codes "1.0" ∷ [])
-        ≡ Some (KeptValue.byte (negsuc 127)) ∷ None ∷ Some (KeptValue.byte (pos 127)) ∷ None ∷ None ∷ [] }
-    ensures ints { map (λ v. kept_by (entry (codes "a") (codes "%i") 5) (tag (codes "a") v)) (codes "-2147483648" ∷ codes "2147483648" ∷ codes "2147483647" ∷ [])
-        ≡ Some (KeptValue.int (negsuc 2147483647)) ∷ None ∷ Some (KeptValue.int (pos 2147483647)) ∷ [] }
-    ensures shorts { map (λ v. kept_by (entry (codes "a") (codes "%h") 5) (tag (codes "a") v)) (codes "-32768" ∷ codes "-32769" ∷ codes "32767" ∷ codes "32768" ∷ [])
-        ≡ Some (KeptValue.short (negsuc 32767)) ∷ None ∷ Some (KeptValue.short (pos 32767)) ∷ None ∷ [] }
-    ensures least_int { kept_by (entry (codes "a") (codes "%i") 5) (tag (codes "a") (codes "-2147483649")) ≡ None }
-    ensures empty { kept_by (entry (codes "a") (codes "%s") 5) (tag (codes "a") []) ≡ None }
+pub fn one_word()
+    ensures read { one_poi (codes "amenity=bench@5") ≡ Ok (poi_mapping (entry (codes "amenity") (codes "bench") 5 ∷ [])) }
+    ensures last_at { one_poi (codes "a=b=@c@021") ≡ Ok (poi_mapping (entry (codes "a") (codes "b=@c") 21 ∷ [])) }
+    ensures entry { map one_poi (codes "" ∷ codes "a" ∷ codes "a@5" ∷ codes "a@5=b" ∷ codes "=b@5" ∷ codes "a=@5" ∷ codes "a=b@" ∷ codes "a=b@22" ∷ codes "a=b@-0" ∷ [])
+        ≡ replicate 9 (Err (MappingFault.entry which.List.Poi 0)) }
+    ensures kind { map one_poi (codes "a=%f@5" ∷ codes "a=%@5" ∷ codes "x:colour=%i@5" ∷ []) ≡ replicate 3 (Err (MappingFault.kind which.List.Poi 0)) }
+    ensures no_fault { map one_poi (codes "roof:colour=red@5" ∷ codes "roof:colour=%s@5" ∷ codes "a=%i@5" ∷ [])
+        ≡ map (λ (e : Entry). Ok (poi_mapping (e ∷ []))) (entry (codes "roof:colour") (codes "red") 5 ∷ entry (codes "roof:colour") (codes "%s") 5 ∷ entry (codes "a") (codes "%i") 5 ∷ []) }
+    ensures digits { map one_poi (codes "a=b@00000000000000000005" ∷ codes "a=b@000000000000000000005" ∷ codes "a=b@+5" ∷ [])
+        ≡ Ok (poi_mapping (entry (codes "a") (codes "b") 5 ∷ [])) ∷ Err (MappingFault.entry which.List.Poi 0) ∷ Err (MappingFault.entry which.List.Poi 0) ∷ [] }
 {}
 
-/// Fifteen ids are kept, and the zoom and the marks come from all sixteen.
+/// Keys and values of 255 and of 256 bytes.
 #[tactic(auto, unfolding(crate::proofs::Compute::compute))]
-pub fn sixteen_entries()
-    ensures { choice (replicate 15 (entry (codes "a") (codes "%s") 9) ++ record { key = codes "natural"; value = codes "coastline"; zoom = 3; water = true; label = true } ∷ []) ((codes "a", codes "x") ∷ (codes "natural", codes "coastline") ∷ (codes "layer", codes "2") ∷ [])
-        ≡ Some (record { tags = map (λ i. record { tag = i; value = KeptValue.text (codes "x") }) (0 ∷ 1 ∷ 2 ∷ 3 ∷ 4 ∷ 5 ∷ 6 ∷ 7 ∷ 8 ∷ 9 ∷ 10 ∷ 11 ∷ 12 ∷ 13 ∷ 14 ∷ []); zoom = 3; layer = pos 2; water = true; label = true; coast = true }) }
+pub fn long_entries()
+    ensures fits { let e = entry (replicate 255 97) (replicate 255 98) 21 in mapping_told (Some e ∷ []) [] ≡ Ok (poi_mapping (e ∷ [])) }
+    ensures key { mapping_told (Some (entry (replicate 256 97) (codes "b") 5) ∷ []) [] ≡ Err (MappingFault.entry which.List.Poi 0) }
+    ensures value { mapping_told (Some (entry (codes "a") (replicate 256 98) 5) ∷ []) [] ≡ Err (MappingFault.entry which.List.Poi 0) }
 {}
 
-/// A mark of an entry is the mark of the choice, each for itself.
+/// Lists of 4,096 entries, and of one more: both lengths come before every entry, and `poi` comes first.
 #[tactic(auto, unfolding(crate::proofs::Compute::compute))]
-pub fn marks_of_entries()
-    ensures water { choice (water true false ∷ []) (tag (codes "natural") (codes "water")) ≡ Some (record { tags = record { tag = 0; value = KeptValue.plain } ∷ []; zoom = 12; layer = pos 0; water = true; label = false; coast = false }) }
-    ensures label { choice (water false true ∷ []) (tag (codes "natural") (codes "water")) ≡ Some (record { tags = record { tag = 0; value = KeptValue.plain } ∷ []; zoom = 12; layer = pos 0; water = false; label = true; coast = false }) }
-    ensures coast { choice (entry (codes "natural") (codes "coastline") 12 ∷ []) (tag (codes "natural") (codes "coastline")) ≡ Some (record { tags = record { tag = 0; value = KeptValue.plain } ∷ []; zoom = 12; layer = pos 0; water = false; label = false; coast = true }) }
+pub fn many_entries()
+    ensures poi { mapping_told (replicate 4097 None) [] ≡ Err (MappingFault.too_many which.List.Poi) }
+    ensures way { mapping_told (None ∷ []) (replicate 4097 None) ≡ Err (MappingFault.too_many which.List.Way) }
+    ensures both { mapping_told (replicate 4097 None) (replicate 4097 None) ≡ Err (MappingFault.too_many which.List.Poi) }
+    ensures fits { mapping_told (replicate 4096 None) (replicate 4096 None) ≡ Err (MappingFault.entry which.List.Poi 0) }
 {}
 
-/// Layers and elevations of benches.
+/// The same key and value a second time in a list, and once in each list.
 #[tactic(auto, unfolding(crate::proofs::Compute::compute))]
-pub fn layers()
-    ensures { map layer_of (tag (codes "layer") (codes "-1") ∷ tag (codes "layer") (codes "9") ∷ tag (codes "layer") (codes "-9") ∷ tag (codes "layer") (codes "+1") ∷ tag (codes "layer") (codes "2;3") ∷ tag (codes "layer") (codes "9999999999") ∷ [] ∷ [])
-        ≡ negsuc 0 ∷ pos 5 ∷ negsuc 4 ∷ pos 0 ∷ pos 0 ∷ pos 5 ∷ pos 0 ∷ [] }
+pub fn entry_twice()
+    ensures twice { mapping_told (Some (entry (codes "amenity") (codes "bench") 9) ∷ Some (entry (codes "amenity") (codes "bench") 5) ∷ []) [] ≡ Err (MappingFault.twice which.List.Poi 1) }
+    ensures in_both { let e = entry (codes "amenity") (codes "bench") 9 in mapping_told (Some e ∷ []) (Some e ∷ []) ≡ Ok (record { poi = e ∷ []; way = e ∷ [] }) }
+    ensures apart { let es = entry (codes "a") (codes "b") 9 ∷ entry (codes "a") (codes "c") 9 ∷ entry (codes "c") (codes "b") 9 ∷ [] in mapping_told (map Some es) [] ≡ Ok (poi_mapping es) }
+{}
+
+/// The order of the faults: of one entry, of the entries of a list, and of the two lists.
+#[tactic(auto, unfolding(crate::proofs::Compute::compute))]
+pub fn first_faults()
+    ensures of_an_entry { let e = entry (codes "a") (codes "%f") 22 in map (entry_behind which.List.Way (e ∷ [])) (Some e ∷ Some (record e { zoom = 5 }) ∷ None ∷ [])
+        ≡ Err (MappingFault.entry which.List.Way 1) ∷ Err (MappingFault.kind which.List.Way 1) ∷ Err (MappingFault.entry which.List.Way 1) ∷ [] }
+    ensures in_order { mapping_told (Some (entry (codes "a") (codes "b") 5) ∷ Some (entry (codes "a") (codes "b") 5) ∷ Some (entry (codes "a") (codes "%f") 5) ∷ None ∷ []) [] ≡ Err (MappingFault.twice which.List.Poi 1) }
+    ensures poi_first { mapping_told (Some (entry (codes "a") (codes "b") 5) ∷ None ∷ []) (None ∷ []) ≡ Err (MappingFault.entry which.List.Poi 1) }
+    ensures marks { map (λ e. mapping_told (Some e ∷ []) []) (water true false ∷ water false true ∷ []) ≡ replicate 2 (Err (MappingFault.entry which.List.Poi 0)) }
+    ensures way_marks { mapping_told [] (Some (water true true) ∷ []) ≡ Ok (record { poi = []; way = water true true ∷ [] }) }
 {}
