@@ -1,16 +1,19 @@
 -- What is accepted is a mapping as it was told, and each mapping is accepted.
-use Rattle.std.proofs.Common.{◌≡◌, ◌⊎◌, ℕ, suc, ◌+◌, ◌≤◌, List, [], ◌∷◌, ◌++◌, map, length, Bool, true, false, not, ◌||◌, Option, Some, None, Result, Ok, Err, refl, sym, ap, ◌∙◌, subst, inl, inr, arith, IsTrue, true≢false}
+use Rattle.std.proofs.Common.{◌≡◌, ℕ, suc, ◌≤◌, List, [], ◌∷◌, ◌++◌, map, length, Bool, true, false, not, ◌||◌, ◌&&◌, Option, Some, Ok, refl, sym, ap, ◌∙◌, subst, arith, true≢false}
 use Rattle.std.specs.Prelude.{nat_le, ok_or}
-use Rattle.std.specs.List.{AllByRecursion, IsDistinct, list_any}
-use Rattle.std.proofs.lemmas.Bool.{le-leb, leb-true}
+use Rattle.std.specs.List.{AllByRecursion, IsDistinct}
+use Rattle.std.proofs.lemmas.Bool.{le-leb, leb-true, and_parts}
 use Rattle.std.proofs.lemmas.List.{append-nil, append_assoc}
 use Rattle.std.proofs.lemmas.Map.Keys.{IsDistinct-cons, IsDistinct-head, IsDistinct-tail}
 use Rattle.std.proofs.lemmas.List.Folds.{list_any-append}
-use Rattle.mf_base.specs.declared.kind.List as which
+use Rattle.mf_base.specs.declared.kind.EntityKind.{EntityKind}
+use Rattle.mf_base.specs.Texts.{Text, has_byte}
 use Rattle.mf_base.specs.Steps.{◌>>=◌, require}
 use Rattle.mf_base.proofs.StepLaws.{bind_ok, require_ok, ok_or_ok, ok_is}
+use Rattle.mf_base.specs.declared.kind.List as which
 use Rattle.feature_model.specs.Mapping.{Entry, Mapping}
-use Rattle.feature_model.specs.Entries.{MappingFault, entry, kind, twice, too_many, keeps_entry_rule, keeps_kind_rule, is_same_tag, is_there, entry_behind, entries_behind, entries_limit, mapping_told, IsEntry, AreEntries, IsMapping}
+use Rattle.feature_model.specs.Descriptions.{entries_for}
+use Rattle.feature_model.specs.Entries.{entry, kind, twice, too_many, keeps_entry_rule, keeps_kind_rule, is_short, may_have_marks, is_same_tag, is_there, entry_behind, entries_behind, entries_limit, mapping_told, IsEntry, AreEntries, IsMapping}
 
 not_true : (b : Bool) → not b ≡ true → b ≡ false
 not_true true e = absurd (true≢false (sym e))
@@ -133,3 +136,34 @@ mapping_told-some m is =
     let a = entries_behind-some which.List.Poi [] m.poi is.poi.rules (none-there m.poi) is.poi.distinct in
     let b = entries_behind-some which.List.Way [] m.way is.way.rules (none-there m.way) is.way.distinct in
     rw (few-told m.poi is.poi.few, few-told m.way is.way.few, a, b) refl
+
+-- ---- what the entry rule says
+
+pub record EntryRule (list : which.List) (e : Entry) : Type 0 where
+  pub key : (1 ≤ length e.key) × (length e.key ≤ 255)
+  pub no_equals : has_byte 61 e.key ≡ false
+  pub value : (1 ≤ length e.value) × (length e.value ≤ 255)
+  pub zoom : e.zoom ≤ 21
+  pub marks : may_have_marks list e ≡ true
+
+short-is : (text : Text) → is_short text ≡ true → (1 ≤ length text) × (length text ≤ 255)
+short-is text h = let bounds = and_parts (nat_le 1 (length text)) (nat_le (length text) 255) h in (leb-true 1 (length text) bounds.0, leb-true (length text) 255 bounds.1)
+
+pub entry_rule-is : (list : which.List) (e : Entry) → keeps_entry_rule list e ≡ true → EntryRule list e
+unfolding keeps_entry_rule
+entry_rule-is list e h =
+    let a = and_parts (is_short e.key && not (has_byte 61 e.key) && is_short e.value && nat_le e.zoom 21) (may_have_marks list e) h in
+    let b = and_parts (is_short e.key && not (has_byte 61 e.key) && is_short e.value) (nat_le e.zoom 21) a.0 in
+    let c = and_parts (is_short e.key && not (has_byte 61 e.key)) (is_short e.value) b.0 in
+    let d = and_parts (is_short e.key) (not (has_byte 61 e.key)) c.0 in
+    record { key = short-is e.key d.0; no_equals = not_true (has_byte 61 e.key) d.1; value = short-is e.value c.1; zoom = leb-true e.zoom 21 b.1; marks = a.1 }
+
+zooms-are : (list : which.List) (entries : List Entry) → AllByRecursion (IsEntry list) entries → AllByRecursion (λ (e : Entry). e.zoom ≤ 21) entries
+zooms-are list [] rules = tt
+zooms-are list (e ∷ entries) rules = ((entry_rule-is list e rules.0.entry_rule).zoom, zooms-are list entries rules.1)
+
+-- the zoom levels of a mapping are those of the map
+pub mapping-zooms : (m : Mapping) (kind : EntityKind) → IsMapping m → AllByRecursion (λ (e : Entry). e.zoom ≤ 21) (entries_for m kind)
+mapping-zooms m EntityKind.Node is = zooms-are which.List.Poi m.poi is.poi.rules
+mapping-zooms m EntityKind.Way is = zooms-are which.List.Way m.way is.way.rules
+mapping-zooms m EntityKind.Relation is = zooms-are which.List.Way m.way is.way.rules

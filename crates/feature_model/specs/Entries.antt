@@ -1,10 +1,10 @@
 -- Which entries a mapping may have, and the mapping of one word `KEY=VALUE@ZOOM`: this project's profile.
 use Rattle.std.specs.Prelude.{◌≤◌, ℕ, Bool, not, ◌&&◌, ◌||◌, nat_le, List, [], ◌∷◌, ◌++◌, length, codes, bytes_eq, Option, option_map, option_and_then, Result, Ok, IsTrue, ok_or, true, false}
 use Rattle.std.specs.List.{list_any, AllByRecursion, IsDistinct}
-use Rattle.mf_base.specs.declared.kind.List as which
 use Rattle.mf_base.specs.Steps.{◌>>=◌, require}
 use Rattle.mf_base.specs.Texts.{Text, begins, has_text, has_byte, is_among, cut, cut_last}
 use Rattle.mf_base.specs.Numbers.{digits_up_to}
+use Rattle.mf_base.specs.declared.kind.List as which
 use Rattle.feature_model.specs.Mapping.{Entry, Mapping}
 
 -- Why a file or a word is no mapping. An entry is told by its list and its place there, from 0.

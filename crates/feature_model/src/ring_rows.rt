@@ -4,19 +4,20 @@ ghost use Rattle.std.specs.Prelude.{◌≡◌, map, Ok, Err, true, false, pos, n
 ghost use Rattle.mf_base.specs.declared.kind.Role.{Role};
 ghost use Rattle.feature_model.specs.Rings.{rings};
 ghost use Rattle.feature_model.specs.Inside.{inside};
-ghost use Rattle.feature_model.specs.Features.{NoShape, blocks_of, relation_blocks};
-ghost use Rattle.feature_model.specs.Samples.{at, node_at, piece, stops, part_at, outer, sides, square};
+ghost use Rattle.feature_model.specs.Blocks.{NoShape, blocks_of, relation_blocks, joined_parts};
+ghost use Rattle.feature_model.specs.Samples.{at, node_at, piece, stops, part_at, outer, sides, square, points_at};
 ghost use Rattle.feature_model.specs.Points.{way_points};
 
 /// Refs below 1 name nothing, whatever their amount.
 #[tactic(auto, unfolding(crate::proofs::Compute::compute))]
 pub fn refs_of_a_way()
-    ensures { way_points (node_at 1 (at 0 1) [] ∷ node_at 2 (at 0 2) [] ∷ []) (record { id = 1; refs = pos 1 ∷ negsuc 0 ∷ pos 0 ∷ negsuc 1 ∷ pos 2 ∷ []; tags = [] }) ≡ stops (1 ∷ 2 ∷ []) }
+    ensures below { way_points (node_at 1 (at 0 1) [] ∷ node_at 2 (at 0 2) [] ∷ []) (record { id = 1; refs = pos 1 ∷ negsuc 0 ∷ pos 0 ∷ negsuc 1 ∷ pos 2 ∷ []; tags = [] }) ≡ stops (1 ∷ 2 ∷ []) }
+    ensures no_id { way_points (node_at 0 (at 0 0) [] ∷ []) (record { id = 1; refs = pos 0 ∷ []; tags = [] }) ≡ [] }
 {}
 
 /// The first unused part that fits is taken, and an open ring names the part that it starts with.
 #[tactic(auto, unfolding(crate::proofs::Compute::compute))]
-pub fn joined_parts()
+pub fn rings_of_pieces()
     ensures first_fit { rings (piece 0 (1 ∷ 2 ∷ []) ∷ piece 1 (3 ∷ 2 ∷ []) ∷ piece 2 (2 ∷ 1 ∷ []) ∷ piece 3 (1 ∷ 3 ∷ []) ∷ []) ≡ Err 2 }
     ensures closed_alone { rings (piece 0 (1 ∷ 2 ∷ 1 ∷ []) ∷ piece 1 (1 ∷ 3 ∷ 1 ∷ []) ∷ []) ≡ Ok (stops (1 ∷ 2 ∷ 1 ∷ []) ∷ stops (1 ∷ 3 ∷ 1 ∷ []) ∷ []) }
     ensures reversed { rings (piece 0 (1 ∷ 2 ∷ []) ∷ piece 1 (1 ∷ 4 ∷ 3 ∷ 2 ∷ []) ∷ []) ≡ Ok (stops (1 ∷ 2 ∷ 3 ∷ 4 ∷ 1 ∷ []) ∷ []) }
@@ -37,11 +38,18 @@ pub fn parts_without_blocks()
 /// A ring within two outer rings belongs to the first of them, and the inner rings of a block stand in their order.
 #[tactic(auto, unfolding(crate::proofs::Compute::compute))]
 pub fn inner_rings_of_squares()
-    ensures blocks { let i = at 4 4 ∷ at 4 6 ∷ at 6 6 ∷ at 4 4 ∷ [] in
-        let j = at 1 1 ∷ at 1 5 ∷ at 5 5 ∷ at 1 1 ∷ [] in
-        let k = at 1 21 ∷ at 1 22 ∷ at 2 22 ∷ at 1 21 ∷ [] in
+    ensures blocks { let i = points_at (at 4 4 ∷ at 4 6 ∷ at 6 6 ∷ at 4 4 ∷ []) in
+        let j = points_at (at 1 1 ∷ at 1 5 ∷ at 5 5 ∷ at 1 1 ∷ []) in
+        let k = points_at (at 1 21 ∷ at 1 22 ∷ at 2 22 ∷ at 1 21 ∷ []) in
         blocks_of (square 0 0 10 10 ∷ square 2 2 8 8 ∷ square 0 20 4 24 ∷ []) (i ∷ k ∷ j ∷ [])
         ≡ (square 0 0 10 10 ∷ i ∷ j ∷ []) ∷ (square 2 2 8 8 ∷ []) ∷ (square 0 20 4 24 ∷ k ∷ []) ∷ [] }
+{}
+
+/// The rings of blocks in the place of the parts.
+#[tactic(auto, unfolding(crate::proofs::Compute::compute))]
+pub fn parts_of_blocks()
+    ensures { joined_parts ((stops (1 ∷ 2 ∷ 1 ∷ []) ∷ stops (3 ∷ 3 ∷ []) ∷ stops (4 ∷ 4 ∷ []) ∷ []) ∷ (stops (5 ∷ 5 ∷ []) ∷ []) ∷ [])
+        ≡ part_at Role.Outer (1 ∷ 2 ∷ 1 ∷ []) ∷ part_at Role.Inner (3 ∷ 3 ∷ []) ∷ part_at Role.Inner (4 ∷ 4 ∷ []) ∷ part_at Role.Outer (5 ∷ 5 ∷ []) ∷ [] }
 {}
 
 /// The edges of a square: the south and the west belong to its inside, the north and the east do not.
