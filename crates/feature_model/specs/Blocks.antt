@@ -24,6 +24,7 @@ unfoldable pub blocks_of : List (List Point) → List (List Point) → List Join
 blocks_of [] inner = []
 blocks_of (o ∷ outer) inner = (o ∷ filter (begins_inside o) inner) ∷ blocks_of outer (filter (λ ring. not (begins_inside o ring)) inner)
 
+-- whether a role is that of outer parts
 abbrev pub is_outer : Role → Bool
 is_outer Role.Outer = true
 is_outer Role.Inner = false

@@ -4,30 +4,37 @@ use Rattle.std.specs.List.{list_any, AllByRecursion, IsDistinct}
 use Rattle.mf_base.specs.Steps.{◌>>=◌, require}
 use Rattle.mf_base.specs.Texts.{Text, begins, has_text, has_byte, is_among, cut, cut_last}
 use Rattle.mf_base.specs.Numbers.{digits_up_to}
+use Rattle.mf_base.specs.Words.{equals}
 use Rattle.mf_base.specs.declared.kind.List as which
 use Rattle.feature_model.specs.Mapping.{Entry, Mapping}
 
 -- Why a file or a word is no mapping. An entry is told by its list and its place there, from 0.
 pub data MappingFault : Type 0 where
+  -- a file is no TOML
   toml : MappingFault
+  -- its top has another key than `poi` and `way`, or one of the two is no array of tables
   shape : MappingFault
+  -- a list has more than 4,096 entries
   too_many : (list : which.List) → MappingFault
+  -- an entry breaks the entry rule
   entry : (list : which.List) (index : ℕ) → MappingFault
+  -- an entry breaks the kind rule
   kind : (list : which.List) (index : ℕ) → MappingFault
+  -- an earlier entry of the list has the same key and value
   twice : (list : which.List) (index : ℕ) → MappingFault
 
 -- a text of 1 to 255 bytes
 abbrev pub is_short : Text → Bool
 is_short text = nat_le 1 (length text) && nat_le (length text) 255
 
--- only `way` has marks
+-- whether an entry has no mark that its list has not: an entry of `poi` has none
 abbrev pub may_have_marks : which.List → Entry → Bool
 may_have_marks which.List.Poi e = not (e.water || e.label)
 may_have_marks which.List.Way e = true
 
 -- The entry rule: key and value have 1 to 255 bytes, the key has no `=`, the zoom level is in 0..21, and an entry of `poi` has no mark.
 unfoldable pub keeps_entry_rule : which.List → Entry → Bool
-keeps_entry_rule list e = is_short e.key && not (has_byte 61 e.key) && is_short e.value && nat_le e.zoom 21 && may_have_marks list e
+keeps_entry_rule list e = is_short e.key && not (has_byte equals e.key) && is_short e.value && nat_le e.zoom 21 && may_have_marks list e
 
 -- The kind rule: a value that begins with `%` is one of the four kinds, and it is not `%i` where the key contains `:colour`.
 unfoldable pub keeps_kind_rule : Entry → Bool
@@ -83,11 +90,16 @@ pub record AreEntries (list : which.List) (entries : List Entry) : Type 0 where
   pub rules : AllByRecursion (IsEntry list) entries
   pub distinct : IsDistinct is_same_tag entries
 
+-- a mapping as it is accepted
 pub record IsMapping (m : Mapping) : Type 0 where
   pub poi : AreEntries which.List.Poi m.poi
   pub way : AreEntries which.List.Way m.way
 
 -- One word.
+
+-- the byte of `@`
+abbrev pub at_sign : ℕ
+at_sign = 64
 
 -- an entry without marks of a key, a value and the digits of a zoom level
 abbrev pub spelled_entry : Text → Text → Text → Option Entry
@@ -95,7 +107,7 @@ spelled_entry key value zoom = option_map (λ level. record { key = key; value =
 
 -- what `KEY=VALUE@ZOOM` tells: the key ends before the first `=`, and the zoom level begins after the last `@` behind it
 unfoldable pub told_poi : Text → Option Entry
-told_poi word = option_and_then (λ (p : Text × Text). option_and_then (λ (q : Text × Text). spelled_entry p.0 q.0 q.1) (cut_last 64 p.1)) (cut 61 word)
+told_poi word = option_and_then (λ (p : Text × Text). option_and_then (λ (q : Text × Text). spelled_entry p.0 q.0 q.1) (cut_last at_sign p.1)) (cut equals word)
 
 -- the mapping of one `poi` entry
 abbrev pub one_poi : Text → Result Mapping MappingFault
