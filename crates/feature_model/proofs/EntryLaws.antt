@@ -125,7 +125,7 @@ mapping_told-ok poi way m h =
     let made : Mapping = record { poi = p; way = w } in
     let a = are_entries which.List.Poi poi p (leb-true (length poi) entries_limit (require_ok (nat_le (length poi) entries_limit) (too_many which.List.Poi) u few_poi)) (entries_behind-ok which.List.Poi [] poi p ps) in
     let b = are_entries which.List.Way way w (leb-true (length way) entries_limit (require_ok (nat_le (length way) entries_limit) (too_many which.List.Way) v few_way)) (entries_behind-ok which.List.Way [] way w ws) in
-    subst (λ (m : Mapping). IsMapping m × (poi ≡ map Some m.poi) × (way ≡ map Some m.way)) (ok_is made m h4) (record { poi = a.0; way = b.0 }, a.1, b.1)
+    subst (λ (m : Mapping). IsMapping m × (poi ≡ map Some m.poi) × (way ≡ map Some m.way)) {x = made} (ok_is made m h4) (record { poi = a.0; way = b.0 }, a.1, b.1)
 
 few-told : (entries : List Entry) → length entries ≤ entries_limit → nat_le (length (map Some entries)) entries_limit ≡ true
 few-told entries few = let l = length-told entries in le-leb (length (map Some entries)) entries_limit (omega (arith, l, few))

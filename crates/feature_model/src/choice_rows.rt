@@ -3,7 +3,7 @@
 ghost use Rattle.std.specs.Prelude.{◌≡◌, map, Some, None, true, false, codes, pos, negsuc, [], ◌∷◌, ◌++◌, replicate};
 ghost use Rattle.feature_model.specs.Mapping.{KeptValue, kept_by};
 ghost use Rattle.feature_model.specs.Choice.{choice, layer_of};
-ghost use Rattle.feature_model.specs.Samples.{tag, entry, benches, water};
+ghost use Rattle.feature_model.specs.Samples.{forest, tag, entry, benches, water};
 
 /// A value that is literally the text of a kind does not match the kind, only the first pair of a key counts, and a kind reads its range.
 #[tactic(auto, unfolding(crate::proofs::Compute::compute))]
@@ -34,6 +34,10 @@ pub fn marks_of_entries()
     ensures water { choice (water true false ∷ []) (tag (codes "natural") (codes "water")) ≡ Some (record { tags = record { tag = 0; value = KeptValue.plain } ∷ []; zoom = 12; layer = pos 0; water = true; label = false; coast = false }) }
     ensures label { choice (water false true ∷ []) (tag (codes "natural") (codes "water")) ≡ Some (record { tags = record { tag = 0; value = KeptValue.plain } ∷ []; zoom = 12; layer = pos 0; water = false; label = true; coast = false }) }
     ensures coast { choice (entry (codes "natural") (codes "coastline") 12 ∷ []) (tag (codes "natural") (codes "coastline")) ≡ Some (record { tags = record { tag = 0; value = KeptValue.plain } ∷ []; zoom = 12; layer = pos 0; water = false; label = false; coast = true }) }
+    ensures no_coast { choice (entry (codes "place") (codes "coastline") 12 ∷ entry (codes "natural") (codes "coast") 12 ∷ []) (tag (codes "place") (codes "coastline") ++ tag (codes "natural") (codes "coast"))
+        ≡ Some (record { tags = record { tag = 0; value = KeptValue.plain } ∷ record { tag = 1; value = KeptValue.plain } ∷ []; zoom = 12; layer = pos 0; water = false; label = false; coast = false }) }
+    ensures of_the_second { choice (entry (codes "landuse") (codes "forest") 12 ∷ water true true ∷ []) (forest ++ tag (codes "natural") (codes "water"))
+        ≡ Some (record { tags = record { tag = 0; value = KeptValue.plain } ∷ record { tag = 1; value = KeptValue.plain } ∷ []; zoom = 12; layer = pos 0; water = true; label = true; coast = false }) }
 {}
 
 /// Layers and elevations of benches.

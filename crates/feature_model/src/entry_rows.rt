@@ -16,6 +16,8 @@ pub fn one_word()
     ensures kind { map one_poi (codes "a=%f@5" ∷ codes "a=%@5" ∷ codes "x:colour=%i@5" ∷ []) ≡ replicate 3 (Err (MappingFault.kind which.List.Poi 0)) }
     ensures no_fault { map one_poi (codes "roof:colour=red@5" ∷ codes "roof:colour=%s@5" ∷ codes "a=%i@5" ∷ [])
         ≡ map (λ (e : Entry). Ok (poi_mapping (e ∷ []))) (entry (codes "roof:colour") (codes "red") 5 ∷ entry (codes "roof:colour") (codes "%s") 5 ∷ entry (codes "a") (codes "%i") 5 ∷ []) }
+    ensures kinds { map one_poi (codes "a=%b@5" ∷ codes "a=%h@5" ∷ codes "a=%i@5" ∷ codes "a=%s@5" ∷ codes "a=b%@5" ∷ [])
+        ≡ map (λ value. Ok (poi_mapping (entry (codes "a") value 5 ∷ []))) (codes "%b" ∷ codes "%h" ∷ codes "%i" ∷ codes "%s" ∷ codes "b%" ∷ []) }
     ensures digits { map one_poi (codes "a=b@00000000000000000005" ∷ codes "a=b@000000000000000000005" ∷ codes "a=b@+5" ∷ [])
         ≡ Ok (poi_mapping (entry (codes "a") (codes "b") 5 ∷ [])) ∷ Err (MappingFault.entry which.List.Poi 0) ∷ Err (MappingFault.entry which.List.Poi 0) ∷ [] }
 {}
