@@ -1,5 +1,5 @@
 -- The blocks that the rings of a relation make: this project's profile.
-use Rattle.std.specs.Prelude.{ℕ, Bool, true, false, not, List, [], ◌∷◌, map, filter, flat_map, Result, Ok, Err}
+use Rattle.std.specs.Prelude.{ℕ, Bool, true, false, not, List, [], ◌∷◌, map, filter, flat_map, Result, Ok, Err, if◌then◌else◌}
 use Rattle.std.specs.List.{enumerate_from}
 use Rattle.mf_base.specs.declared.kind.Role.{Role}
 use Rattle.feature_model.specs.Points.{Point, Part}
@@ -64,3 +64,13 @@ block_parts (outer ∷ inner) = record { role = Role.Outer; points = outer } ∷
 -- The parts that stand in the place of a relation's parts once its rings are joined: the rings of its blocks, in order.
 abbrev pub joined_parts : List JoinedBlock → List Part
 joined_parts found = flat_map block_parts found
+
+-- the inner parts up to the next outer one
+abbrev pub inner_before : List Part → List (List Point)
+inner_before [] = []
+inner_before (part ∷ more) = if is_outer part.role then [] else part.points ∷ inner_before more
+
+-- The blocks that parts make which stand so: a part of role outer begins a block, and the inner ones after it follow.
+unfoldable pub blocks_in : List Part → List JoinedBlock
+blocks_in [] = []
+blocks_in (part ∷ more) = if is_outer part.role then (part.points ∷ inner_before more) ∷ blocks_in more else blocks_in more

@@ -4,7 +4,7 @@ ghost use Rattle.std.specs.Prelude.{◌≡◌, map, Ok, Err, true, false, pos, n
 ghost use Rattle.mf_base.specs.declared.kind.Role.{Role};
 ghost use Rattle.feature_model.specs.Rings.{rings};
 ghost use Rattle.feature_model.specs.Inside.{inside};
-ghost use Rattle.feature_model.specs.Blocks.{NoShape, blocks_of, relation_blocks, joined_parts};
+ghost use Rattle.feature_model.specs.Blocks.{NoShape, blocks_of, relation_blocks, joined_parts, blocks_in};
 ghost use Rattle.feature_model.specs.Samples.{at, node_at, piece, stops, part_at, outer, sides, square, points_at};
 ghost use Rattle.feature_model.specs.Points.{way_points};
 
@@ -48,8 +48,10 @@ pub fn inner_rings_of_squares()
 /// The rings of blocks in the place of the parts.
 #[tactic(auto, unfolding(crate::proofs::Compute::compute))]
 pub fn parts_of_blocks()
-    ensures { joined_parts ((stops (1 ∷ 2 ∷ 1 ∷ []) ∷ stops (3 ∷ 3 ∷ []) ∷ stops (4 ∷ 4 ∷ []) ∷ []) ∷ (stops (5 ∷ 5 ∷ []) ∷ []) ∷ [])
+    ensures parts { joined_parts ((stops (1 ∷ 2 ∷ 1 ∷ []) ∷ stops (3 ∷ 3 ∷ []) ∷ stops (4 ∷ 4 ∷ []) ∷ []) ∷ (stops (5 ∷ 5 ∷ []) ∷ []) ∷ [])
         ≡ part_at Role.Outer (1 ∷ 2 ∷ 1 ∷ []) ∷ part_at Role.Inner (3 ∷ 3 ∷ []) ∷ part_at Role.Inner (4 ∷ 4 ∷ []) ∷ part_at Role.Outer (5 ∷ 5 ∷ []) ∷ [] }
+    ensures back { blocks_in (part_at Role.Inner (6 ∷ 6 ∷ []) ∷ part_at Role.Outer (1 ∷ 2 ∷ 1 ∷ []) ∷ part_at Role.Inner (3 ∷ 3 ∷ []) ∷ part_at Role.Outer (5 ∷ 5 ∷ []) ∷ part_at Role.Inner (4 ∷ 4 ∷ []) ∷ [])
+        ≡ (stops (1 ∷ 2 ∷ 1 ∷ []) ∷ stops (3 ∷ 3 ∷ []) ∷ []) ∷ (stops (5 ∷ 5 ∷ []) ∷ stops (4 ∷ 4 ∷ []) ∷ []) ∷ [] }
 {}
 
 /// The edges of a square: the south and the west belong to its inside, the north and the east do not.
