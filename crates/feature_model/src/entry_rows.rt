@@ -22,12 +22,15 @@ pub fn one_word()
         ≡ Ok (poi_mapping (entry (codes "a") (codes "b") 5 ∷ [])) ∷ Err (MappingFault.entry which.List.Poi 0) ∷ Err (MappingFault.entry which.List.Poi 0) ∷ [] }
 {}
 
-/// Keys and values of 255 and of 256 bytes.
+/// Keys and values of 255 and of 256 bytes and of none, a key with `=`, and zoom levels.
 #[tactic(auto, unfolding(crate::proofs::Compute::compute))]
-pub fn long_entries()
+pub fn entry_rule()
     ensures fits { let e = entry (replicate 255 97) (replicate 255 98) 21 in mapping_told (Some e ∷ []) [] ≡ Ok (poi_mapping (e ∷ [])) }
     ensures key { mapping_told (Some (entry (replicate 256 97) (codes "b") 5) ∷ []) [] ≡ Err (MappingFault.entry which.List.Poi 0) }
     ensures value { mapping_told (Some (entry (codes "a") (replicate 256 98) 5) ∷ []) [] ≡ Err (MappingFault.entry which.List.Poi 0) }
+    ensures broken { map (λ e. mapping_told [] (Some e ∷ [])) (entry [] (codes "b") 5 ∷ entry (codes "a") [] 5 ∷ entry (codes "a=") (codes "b") 5 ∷ entry (codes "a") (codes "b") 22 ∷ [])
+        ≡ replicate 4 (Err (MappingFault.entry which.List.Way 0)) }
+    ensures equals_in_value { let e = entry (codes "a") (codes "b=") 0 in mapping_told [] (Some e ∷ []) ≡ Ok (record { poi = []; way = e ∷ [] }) }
 {}
 
 /// Lists of 4,096 entries, and of one more: both lengths come before every entry, and `poi` comes first.
