@@ -44,3 +44,7 @@ all-numbered P whole n (x ∷ xs) all at =
 pub length-map_of : {A B : Type 0} (f : A → B) (xs : List A) → length (map f xs) ≡ length xs
 length-map_of f [] = refl
 length-map_of f (x ∷ xs) = ap suc (length-map_of f xs)
+
+pub all-weaker : {A : Type 0} (P Q : A → Type 0) (xs : List A) → ((x : A) → P x → Q x) → AllByRecursion P xs → AllByRecursion Q xs
+all-weaker P Q [] step h = tt
+all-weaker P Q (x ∷ xs) step h = (step x h.0, all-weaker P Q xs step h.1)

@@ -23,6 +23,7 @@ pub fn rings_of_pieces()
     ensures reversed { rings (piece 0 (1 ∷ 2 ∷ []) ∷ piece 1 (1 ∷ 4 ∷ 3 ∷ 2 ∷ []) ∷ []) ≡ Ok (stops (1 ∷ 2 ∷ 3 ∷ 4 ∷ 1 ∷ []) ∷ []) }
     ensures skips_a_ring { rings (piece 1 (1 ∷ 2 ∷ []) ∷ piece 4 (7 ∷ 8 ∷ 7 ∷ []) ∷ piece 6 (2 ∷ 1 ∷ []) ∷ []) ≡ Ok (stops (1 ∷ 2 ∷ 1 ∷ []) ∷ stops (7 ∷ 8 ∷ 7 ∷ []) ∷ []) }
     ensures taken_back { rings (piece 0 (1 ∷ 2 ∷ []) ∷ piece 1 (2 ∷ 5 ∷ 6 ∷ 2 ∷ []) ∷ piece 2 (2 ∷ 1 ∷ []) ∷ []) ≡ Ok (stops (1 ∷ 2 ∷ 5 ∷ 6 ∷ 2 ∷ 1 ∷ []) ∷ []) }
+    ensures none_fits { rings (piece 3 (1 ∷ 2 ∷ []) ∷ piece 5 (4 ∷ 6 ∷ []) ∷ []) ≡ Err 3 }
     ensures names_its_start { rings (piece 3 (1 ∷ 2 ∷ []) ∷ piece 5 (2 ∷ 4 ∷ []) ∷ []) ≡ Err 3 }
     ensures none { rings [] ≡ Ok [] }
 {}
