@@ -1,5 +1,5 @@
 -- The blocks that the rings of a relation make: this project's profile.
-use Rattle.std.specs.Prelude.{ℕ, Bool, true, false, not, List, [], ◌∷◌, map, filter, flat_map, Result, Ok, Err, if◌then◌else◌}
+use Rattle.std.specs.Prelude.{◌==◌, position, Option, Some, None, ℕ, Bool, true, false, not, List, [], ◌∷◌, map, filter, flat_map, Result, Ok, Err, if◌then◌else◌}
 use Rattle.std.specs.List.{enumerate_from}
 use Rattle.mf_base.specs.declared.kind.Role.{Role}
 use Rattle.feature_model.specs.Points.{Point, Part}
@@ -23,6 +23,15 @@ begins_inside outer (p ∷ ring) = inside (places outer ∷ []) p.place
 unfoldable pub blocks_of : List (List Point) → List (List Point) → List JoinedBlock
 blocks_of [] inner = []
 blocks_of (o ∷ outer) inner = (o ∷ filter (begins_inside o) inner) ∷ blocks_of outer (filter (λ ring. not (begins_inside o ring)) inner)
+
+-- the same told by homes: the place of the first outer ring that has a ring's first point inside
+abbrev pub home : List (List Point) → List Point → Option ℕ
+home outer ring = position (λ o. begins_inside o ring) outer
+
+-- whether this place is a home
+abbrev pub is_home : ℕ → Option ℕ → Bool
+is_home n None = false
+is_home n (Some m) = m == n
 
 -- whether a role is that of outer parts
 abbrev pub is_outer : Role → Bool
