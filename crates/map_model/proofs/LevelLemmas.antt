@@ -1,6 +1,6 @@
 -- What is written of a tile's members is a tile that a reader takes.
 use Rattle.std.proofs.Common.{◌≡◌, ◌⊎◌, ℕ, zero, suc, ◌+◌, ◌-◌, ◌<◌, ◌≤◌, List, [], ◌∷◌, ◌++◌, map, refl, sym, ap, ◌∙◌, arith, inl, inr, true, false, append-nil}
-use Rattle.std.specs.Prelude.{Bool, filter, flat_map, zip, ◌==◌, cond}
+use Rattle.std.specs.Prelude.{Bool, count_by, filter, flat_map, zip, ◌==◌, cond}
 use Rattle.std.proofs.lemmas.Bool.{eqb-true, cases_lt, ne_eqb}
 use Rattle.std.specs.List.{range_with_len}
 use Rattle.std.proofs.lemmas.List.{length-map, map-append}
@@ -15,7 +15,7 @@ use Rattle.mf_base.specs.declared.tile.TilePlace.{TilePlace}
 use Rattle.feature_model.specs.Features.{Feature}
 use Rattle.map_model.specs.Tiles.{is_poi, is_way, effective_zoom, zooms, of_zoom, by_zoom, in_order, in_tile, members, sub_tile_bits}
 use Rattle.map_model.specs.Layout.{Level, sized, level_count_bytes, levels_bytes, poi_fields_bytes, way_fields_bytes}
-use Rattle.map_model.specs.TileBytes.{poi_fields, poi_bytes, way_fields, way_bytes, tile_corner, zoom_count, zoom_table, some_tile_bytes, tile_bytes, written_level, written_levels}
+use Rattle.map_model.specs.TileBytes.{poi_fields, poi_bytes, way_fields, way_bytes, tile_corner, tile_bytes, written_level, written_levels}
 use Rattle.map_model.specs.Listed.{TagLists, Listed, poi, way, shown_poi, shown_way, shown_levels, listed}
 
 -- ---- lists
@@ -85,7 +85,7 @@ flat_map_nothing (x ∷ xs) = flat_map_nothing xs
 filter-by_zoom : (p : Feature → Bool) (interval : Interval) (fs : List Feature) → filter p (by_zoom interval fs) ≡ by_zoom interval (filter p fs)
 filter-by_zoom p interval fs =
     filter-flat_map p (λ z. of_zoom interval z fs) (zooms interval)
-    ∙ flat_map_ext (λ z. filter p (of_zoom interval z fs)) (λ z. of_zoom interval z (filter p fs)) (λ z. filter-comm p (λ f. effective_zoom interval f == z) fs) (zooms interval)
+    ∙ flat_map_ext (λ z. filter p (of_zoom interval z fs)) (λ z. of_zoom interval z (filter p fs)) (λ z. filter-comm p (λ f. effective_zoom interval f.zoom == z) fs) (zooms interval)
 
 by_zoom-nil : (interval : Interval) → by_zoom interval [] ≡ []
 by_zoom-nil interval = flat_map_nothing (zooms interval)
@@ -125,11 +125,20 @@ in_order-parts interval fs e = record {
   whole = e;
 }
 
+abbrev zoom_count : Interval → ℕ → List Feature → ℕ
+zoom_count interval zoom features = count_by (λ g. effective_zoom interval g.zoom == zoom) features
+
+abbrev zoom_table : Interval → List Feature → List ℕ
+zoom_table interval fs = flat_map (λ zoom. vbe_unsigned (zoom_count interval zoom (filter is_poi fs)) ++ vbe_unsigned (zoom_count interval zoom (filter is_way fs))) (zooms interval)
+
+abbrev flat_bytes : Place → TilePlace → List Feature → List ℕ
+flat_bytes corner tile fs = zoom_table tile.interval fs ++ sized (flat_map (poi_bytes corner) (filter is_poi fs)) ++ flat_map (λ g. way_bytes corner (sub_tile_bits g tile) g) (filter is_way fs)
+
 counts-level : (corner : Place) (tile : TilePlace) (fs : List Feature) (z : ℕ)
     → level_count_bytes (written_level corner tile fs z) ≡ vbe_unsigned (zoom_count tile.interval z (filter is_poi fs)) ++ vbe_unsigned (zoom_count tile.interval z (filter is_way fs))
 unfolding written_level
 counts-level corner tile fs z =
-    let same : Feature → Bool = λ f. effective_zoom tile.interval f == z in
+    let same : Feature → Bool = λ f. effective_zoom tile.interval f.zoom == z in
     let p = length-map (filter same (filter is_poi fs)) poi_fields ∙ length-filter same (filter is_poi fs) in
     let w = length-map (filter same (filter is_way fs)) (λ f. way_fields corner (sub_tile_bits f tile) f) ∙ length-filter same (filter is_way fs) in
     λ i. vbe_unsigned (p i) ++ vbe_unsigned (w i)
@@ -149,7 +158,7 @@ module _ (corner : Place) (tile : TilePlace) (fs : List Feature) (h : InOrder ti
   level z = written_level corner tile fs z
 
   table-levels : flat_map level_count_bytes (map level (zooms tile.interval)) ≡ zoom_table tile.interval fs
-  unfolding zoom_table level
+  unfolding level
   table-levels =
       flat_map-map level_count_bytes (written_level corner tile fs) (zooms tile.interval)
       ∙ flat_map_ext (λ z. level_count_bytes (written_level corner tile fs z)) (λ z. vbe_unsigned (zoom_count tile.interval z (filter is_poi fs)) ++ vbe_unsigned (zoom_count tile.interval z (filter is_way fs))) (counts-level corner tile fs) (zooms tile.interval)
@@ -170,8 +179,8 @@ module _ (corner : Place) (tile : TilePlace) (fs : List Feature) (h : InOrder ti
       ∙ sym (flat_map-flat_map (λ f. way_bytes corner (sub_tile_bits f tile) f) (λ z. of_zoom tile.interval z (filter is_way fs)) (zooms tile.interval))
       ∙ ap (flat_map (λ f. way_bytes corner (sub_tile_bits f tile) f)) (sym h.ways)
 
-  bytes-levels : levels_bytes corner (map level (zooms tile.interval)) ≡ some_tile_bytes corner tile fs
-  unfolding levels_bytes some_tile_bytes level
+  bytes-levels : levels_bytes corner (map level (zooms tile.interval)) ≡ flat_bytes corner tile fs
+  unfolding levels_bytes level
   bytes-levels = λ i. table-levels i ++ sized (pois-levels i) ++ ways-levels i
 
 -- ---- records
@@ -180,13 +189,13 @@ zip-map : {A B : Type 0} (f : A → B) (xs : List A) → zip xs (map f xs) ≡ m
 zip-map f [] = refl
 zip-map f (x ∷ xs) = λ i. (x, f x) ∷ zip-map f xs i
 
-listed-poi : (tags : TagLists) (tile : TilePlace) (f : Feature) → is_poi f ≡ true → listed tags tile f ≡ poi (shown_poi tags.poi (effective_zoom tile.interval f) (poi_fields f))
+listed-poi : (tags : TagLists) (tile : TilePlace) (f : Feature) → is_poi f ≡ true → listed tags tile f ≡ poi (shown_poi tags.poi (effective_zoom tile.interval f.zoom) (poi_fields f))
 unfolding listed
-listed-poi tags tile f e = ap (λ b. cond b (poi (shown_poi tags.poi (effective_zoom tile.interval f) (poi_fields f))) (way (shown_way tags.way (effective_zoom tile.interval f) (way_fields (tile_corner tile) (sub_tile_bits f tile) f)))) e
+listed-poi tags tile f e = ap (λ b. cond b (poi (shown_poi tags.poi (effective_zoom tile.interval f.zoom) (poi_fields f))) (way (shown_way tags.way (effective_zoom tile.interval f.zoom) (way_fields (tile_corner tile) (sub_tile_bits f tile) f)))) e
 
-listed-way : (tags : TagLists) (tile : TilePlace) (f : Feature) → is_poi f ≡ false → listed tags tile f ≡ way (shown_way tags.way (effective_zoom tile.interval f) (way_fields (tile_corner tile) (sub_tile_bits f tile) f))
+listed-way : (tags : TagLists) (tile : TilePlace) (f : Feature) → is_poi f ≡ false → listed tags tile f ≡ way (shown_way tags.way (effective_zoom tile.interval f.zoom) (way_fields (tile_corner tile) (sub_tile_bits f tile) f))
 unfolding listed
-listed-way tags tile f e = ap (λ b. cond b (poi (shown_poi tags.poi (effective_zoom tile.interval f) (poi_fields f))) (way (shown_way tags.way (effective_zoom tile.interval f) (way_fields (tile_corner tile) (sub_tile_bits f tile) f)))) e
+listed-way tags tile f e = ap (λ b. cond b (poi (shown_poi tags.poi (effective_zoom tile.interval f.zoom) (poi_fields f))) (way (shown_way tags.way (effective_zoom tile.interval f.zoom) (way_fields (tile_corner tile) (sub_tile_bits f tile) f)))) e
 
 -- where two functions agree on what passes a test, they agree over a filter
 map-filter_ext : {A B : Type 0} (p : A → Bool) (f g : A → B) → ((x : A) → p x ≡ true → f x ≡ g x) → (xs : List A) → map f (filter p xs) ≡ map g (filter p xs)
@@ -203,13 +212,13 @@ map-map g f (x ∷ xs) = λ i. g (f x) ∷ map-map g f xs i
 
 -- features of one kind and one zoom, shown with that zoom
 module _ (tags : TagLists) (tile : TilePlace) (kind : Feature → Bool) (at_zoom : ℕ → Feature → Listed)
-    (agrees : (f : Feature) → kind f ≡ true → at_zoom (effective_zoom tile.interval f) f ≡ listed tags tile f) (z : ℕ) where
+    (agrees : (f : Feature) → kind f ≡ true → at_zoom (effective_zoom tile.interval f.zoom) f ≡ listed tags tile f) (z : ℕ) where
   same_zoom : Feature → Bool
-  same_zoom f = effective_zoom tile.interval f == z
+  same_zoom f = effective_zoom tile.interval f.zoom == z
 
   one : (f : Feature) → kind f ≡ true → same_zoom f ≡ true → at_zoom z f ≡ listed tags tile f
   unfolding same_zoom
-  one f e k = ap (λ n. at_zoom n f) (sym (eqb-true (effective_zoom tile.interval f) z k)) ∙ agrees f e
+  one f e k = ap (λ n. at_zoom n f) (sym (eqb-true (effective_zoom tile.interval f.zoom) z k)) ∙ agrees f e
 
   pass : (xs : List Feature) → map (at_zoom z) (filter kind (filter same_zoom xs)) ≡ map (listed tags tile) (filter kind (filter same_zoom xs))
   pass [] = refl
@@ -261,10 +270,13 @@ module _ (tags : TagLists) (tile : TilePlace) (fs : List Feature) where
 pub levels-shown : (tags : TagLists) (tile : TilePlace) (fs : List Feature) → fs ≡ in_order tile.interval fs → shown_levels tags tile.interval (written_levels tile fs) ≡ map (listed tags tile) fs
 levels-shown tags tile fs e = shown-levels tags tile fs ∙ ap (map (listed tags tile)) (sym e)
 
--- the bytes of members in order are laid out by zoom levels
-pub levels-spelt : (tile : TilePlace) (f : Feature) (fs : List Feature) → f ∷ fs ≡ in_order tile.interval (f ∷ fs) → tile_bytes tile (f ∷ fs) ≡ levels_bytes (tile_corner tile) (written_levels tile (f ∷ fs))
+-- the bytes of members in order: the zoom table, the first-way offset, the POIs, the ways
+pub tile_bytes-flat : (tile : TilePlace) (f : Feature) (fs : List Feature) → f ∷ fs ≡ in_order tile.interval (f ∷ fs)
+    → tile_bytes tile (f ∷ fs) ≡ flat_map (λ zoom. vbe_unsigned (count_by (λ g. effective_zoom tile.interval g.zoom == zoom) (filter is_poi (f ∷ fs))) ++ vbe_unsigned (count_by (λ g. effective_zoom tile.interval g.zoom == zoom) (filter is_way (f ∷ fs)))) (zooms tile.interval)
+    ++ sized (flat_map (poi_bytes (tile_corner tile)) (filter is_poi (f ∷ fs)))
+    ++ flat_map (λ g. way_bytes (tile_corner tile) (sub_tile_bits g tile) g) (filter is_way (f ∷ fs))
 unfolding tile_bytes written_levels level
-levels-spelt tile f fs e = sym (bytes-levels (tile_corner tile) tile (f ∷ fs) (in_order-parts tile.interval (f ∷ fs) e))
+tile_bytes-flat tile f fs e = bytes-levels (tile_corner tile) tile (f ∷ fs) (in_order-parts tile.interval (f ∷ fs) e)
 
 -- ---- members are in order
 
@@ -274,11 +286,11 @@ flat_map_range f g (suc n) a e = λ i. e a (omega arith) (omega arith) i ++ flat
 
 module _ (interval : Interval) (xs : List Feature) (z : ℕ) where
   same : ℕ → Feature → Bool
-  same k f = effective_zoom interval f == k
+  same k f = effective_zoom interval f.zoom == k
 
   apart : (k : ℕ) → (z ≡ k → ⊥) → (f : Feature) → same k f ≡ true → same z f ≡ false
   unfolding same
-  apart k differ f e = ne_eqb (effective_zoom interval f) z (λ h. differ (sym h ∙ eqb-true (effective_zoom interval f) k e))
+  apart k differ f e = ne_eqb (effective_zoom interval f.zoom) z (λ h. differ (sym h ∙ eqb-true (effective_zoom interval f.zoom) k e))
 
   miss : (n a : ℕ) → z < a → flat_map (λ k. of_zoom interval z (of_zoom interval k xs)) (range_with_len a n) ≡ []
   unfolding same
@@ -299,7 +311,7 @@ module _ (interval : Interval) (xs : List Feature) (z : ℕ) where
 by_zoom-idem : (interval : Interval) (xs : List Feature) → by_zoom interval (by_zoom interval xs) ≡ by_zoom interval xs
 by_zoom-idem interval xs =
     flat_map_range (λ z. of_zoom interval z (by_zoom interval xs)) (λ z. of_zoom interval z xs) (suc interval.max - interval.min) interval.min
-    (λ z low high. filter-flat_map (λ f. effective_zoom interval f == z) (λ k. of_zoom interval k xs) (zooms interval) ∙ pick interval xs z (suc interval.max - interval.min) interval.min low high)
+    (λ z low high. filter-flat_map (λ f. effective_zoom interval f.zoom == z) (λ k. of_zoom interval k xs) (zooms interval) ∙ pick interval xs z (suc interval.max - interval.min) interval.min low high)
 
 pub in_order-idem : (interval : Interval) (fs : List Feature) → in_order interval (in_order interval fs) ≡ in_order interval fs
 unfolding in_order
@@ -310,4 +322,4 @@ pub members-in_order : (features : List Feature) (tile : TilePlace) → members 
 unfolding members
 members-in_order features tile = sym (in_order-idem tile.interval (in_tile tile features))
 
-pub ruleset level_laws = (levels-spelt, levels-shown, members-in_order)
+pub ruleset level_laws = (tile_bytes-flat, levels-shown, members-in_order)

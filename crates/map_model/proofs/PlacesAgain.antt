@@ -1,6 +1,4 @@
 -- What a tile tells is read again from its bytes.
-use Rattle.feature_model.specs.Features.{Block}
-use Rattle.feature_model.specs.Inside.{Ring}
 use Rattle.std.proofs.Common.{◌≡◌, ℕ, zero, suc, ◌+◌, ◌-◌, ◌^◌, ◌<◌, ◌≤◌, List, [], ◌∷◌, ◌++◌, length, refl, ap, ◌∙◌, arith, inl, inr, true, false, length-append, append_assoc}
 use Rattle.std.specs.Prelude.{Bool, ◌&&◌, flat_map, cond, ℤ, pos, negsuc, neg_ℤ, nat_abs, ◌+ℤ◌, ◌-ℤ◌, nat_lt, Ok, leb}
 use Rattle.std.proofs.lemmas.Bool.{cases_lt, lt-ltb, le-ltb, le-leb, leb-true}
@@ -12,6 +10,8 @@ use Rattle.mf_base.specs.Spelling.{vbe_unsigned, vbe_signed, string}
 use Rattle.mf_base.proofs.NumberLemmas.{unsigned_front-again, signed_front-again}
 use Rattle.mf_base.specs.declared.place.Place.{Place}
 use Rattle.mf_base.specs.Ranges.{is_signed_32}
+use Rattle.feature_model.specs.Features.{Block}
+use Rattle.feature_model.specs.Inside.{Ring}
 use Rattle.map_model.specs.Tiles.{origin}
 use Rattle.map_model.specs.Layout.{step, step_bytes, steps_from, ring_steps, coordinate_bytes, ring_bytes, block_bytes}
 use Rattle.map_model.specs.Reader.{Read, times}

@@ -1,6 +1,4 @@
 -- What POIs and ways tell is read again from their bytes.
-use Rattle.feature_model.specs.Features.{Block}
-use Rattle.feature_model.specs.Inside.{Ring}
 use Rattle.std.proofs.Common.{◌≡◌, ℕ, zero, suc, ◌+◌, ◌-◌, ◌*◌, ◌/◌, ◌%◌, ◌^◌, ◌<◌, ◌≤◌, List, [], ◌∷◌, ◌++◌, map, length, refl, sym, ap, ◌∙◌, arith, true, false, length-append, append_assoc, append-nil}
 use Rattle.std.specs.Prelude.{Bool, flat_map, zip, cond, ℤ, pos, negsuc, ◌+ℤ◌, ◌-ℤ◌, Ok, Some, None, Option, IsTrue, leb, is_some, IfSome}
 use Rattle.std.specs.List.{AllByRecursion}
@@ -13,21 +11,21 @@ use Rattle.byteorder.specs.Endian.{big_number}
 use Rattle.byteorder.specs.Numbers.{big_number-reads_back}
 use Rattle.mf_base.specs.Spelling.{vbe_unsigned, vbe_signed, string, big_endian}
 use Rattle.mf_base.specs.declared.place.Place.{Place}
-use Rattle.feature_model.specs.Mapping.{KeptValue}
-use Rattle.feature_model.specs.Choice.{Kept}
-use Rattle.map_model.specs.Numbers.{above_zero}
 use Rattle.mf_base.specs.Ranges.{is_signed_32, lies_within}
-use Rattle.map_model.specs.Layout.{PoiFields, WayFields, Level, optional, flag, layer_byte, value_bytes, tag_bytes, step, step_bytes, poi_flags, poi_fields_bytes, way_flags, first_of_blocks, way_body_bytes, way_fields_bytes, sized, ring_bytes, block_bytes, level_count_bytes, levels_bytes}
 use Rattle.mf_base.specs.declared.tile.Interval.{Interval}
 use Rattle.mf_base.specs.declared.tile.TilePlace.{TilePlace}
 use Rattle.mf_base.proofs.Vbe.{length-vbe_unsigned-positive}
-use Rattle.feature_model.specs.Features.{Feature}
+use Rattle.feature_model.specs.Features.{Block, Feature}
+use Rattle.feature_model.specs.Inside.{Ring}
+use Rattle.feature_model.specs.Mapping.{KeptValue, ValueKind}
+use Rattle.feature_model.specs.Choice.{Kept}
+use Rattle.map_model.specs.Numbers.{above_zero}
+use Rattle.map_model.specs.Layout.{PoiFields, WayFields, Level, optional, flag, layer_byte, value_bytes, tag_bytes, step, step_bytes, poi_flags, poi_fields_bytes, way_flags, first_of_blocks, way_body_bytes, way_fields_bytes, sized, ring_bytes, block_bytes, level_count_bytes, levels_bytes}
 use Rattle.map_model.specs.Tiles.{zooms, in_order}
 use Rattle.map_model.specs.TileBytes.{tile_corner, tile_bytes, written_level, written_levels}
 use Rattle.map_model.proofs.CornerLemmas.{tile_corner-in_range}
-use Rattle.map_model.proofs.LevelLemmas.{levels-spelt, levels-shown}
+use Rattle.map_model.proofs.LevelLemmas.{levels-shown}
 use Rattle.map_model.specs.Listed.{TagLists, Listed, listed, shown_levels, tag_kind, tag_at}
-use Rattle.feature_model.specs.Mapping.{ValueKind}
 use Rattle.map_model.specs.Reader.{Read, fixed_number, times, each, where_set}
 use Rattle.map_model.specs.TileReading.{TileKind, number, text_at, ranged, layer_at, id_at, value_at, kept_at, tags_at, has_flag, poi_at, block_at, block_count_at, blocks_at, first_place_at, two_signed, label_and_blocks_at, way_body_at, way_at, counts_at, level_of, levels_at, read_tile_from, read_tile, ReadsTile, IsLevel, SpellsLevels, IsText, IsInRange, IsOfKind, IsKeptOf, IsPoi, IsBlock, IsWay}
 use Rattle.map_model.proofs.SizeLemmas.{length-big_endian}
@@ -515,9 +513,10 @@ written_levels-length tile fs = length-map (zooms tile.interval) (written_level 
 pub reads_written : (names : TagLists) (tile : TilePlace) (f : Feature) (fs : List Feature) → tile.x < 2 ^ tile.interval.base → f ∷ fs ≡ in_order tile.interval (f ∷ fs)
     → AllByRecursion (IsLevel names) (written_levels tile (f ∷ fs)) → length (tile_bytes tile (f ∷ fs)) < 2 ^ 63
     → read_tile names tile (tile_bytes tile (f ∷ fs)) ≡ Ok (map (listed names tile) (f ∷ fs))
+unfolding tile_bytes
 reads_written names tile f fs below ordered fits small =
     read_tile-spelt names tile (tile_bytes tile (f ∷ fs)) (written_levels tile (f ∷ fs)) (tile_corner-in_range tile below)
-    (record { each = fits; all = written_levels-length tile (f ∷ fs); spelt = levels-spelt tile f fs ordered; small = small })
+    (record { each = fits; all = written_levels-length tile (f ∷ fs); spelt = refl; small = small })
     ∙ ap Ok (levels-shown names tile (f ∷ fs) ordered)
 
 pub ruleset reading_laws = (reads_spelt, reads_written)

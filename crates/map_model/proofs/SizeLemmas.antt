@@ -1,40 +1,42 @@
 -- The sizes of headers and sub-files, and index entries both ways.
 use Rattle.std.proofs.Common.{◌≡◌, ℕ, ◌+◌, ◌*◌, ◌/◌, ◌%◌, ◌^◌, ◌<◌, List, [], ◌∷◌, ◌++◌, length, refl, ap, ◌∙◌, arith, true, false, length-append}
 use Rattle.std.specs.Prelude.{Bool, flat_map, zip, sum_by, cond}
-use Rattle.std.specs.List.{range_with_len}
+use Rattle.std.specs.List.{enumerate_from}
+use Rattle.std.proofs.Math.Seq.{take-length}
 use Rattle.std.proofs.lemmas.Bool.{ne_eqb, eq-eqb}
 use Rattle.std.proofs.lemmas.Slice.Zip.{length-zip}
-use Rattle.std.proofs.lemmas.List.FromFn.{length-range_with_len}
+use Rattle.std.proofs.lemmas.List.FromFn.{length-enumerate_from}
 use Rattle.std.proofs.lemmas.List.Concat.{length-flat_map}
 use Rattle.byteorder.specs.Endian.{big_number}
 use Rattle.byteorder.specs.Numbers.{length-bytes_high_first, big_number-reads_back}
 use Rattle.mf_base.specs.Spelling.{big_endian}
 use Rattle.mf_base.specs.declared.place.Rect.{Rect}
 use Rattle.mf_base.specs.declared.tile.Interval.{Interval}
-use Rattle.map_model.specs.SubFile.{Piece, entry_bytes, offset_of, index_bytes, sub_file_of, sub_file_size}
+use Rattle.map_model.specs.SubFile.{TileContent, entry_bytes, offset_of, index_bytes, sub_file_of, sub_file_size}
 use Rattle.map_model.specs.Listed.{TagLists}
 use Rattle.map_model.specs.Header.{HeadSettings, SubFile, HeaderFields, box_bytes, interval_bytes, middle_bytes, fields_bytes, header_fields_bytes, written_header, header_size, header_bytes}
-use Rattle.map_model.specs.Listing.{entry_of}
+use Rattle.map_model.specs.Listing.{index_entry_of}
 
 pub length-big_endian : (width n : ℕ) → length (big_endian width n) ≡ width
 unfolding big_endian
 length-big_endian width n = length-bytes_high_first width n
 
-fives : (ps : List Piece) (xs : List (ℕ × Piece)) → length (flat_map (λ at. entry_bytes at.1.water (offset_of ps at.0)) xs) ≡ 5 * length xs
-fives ps [] = refl
-fives ps (x ∷ xs) = rw (length-append (entry_bytes x.1.water (offset_of ps x.0)) (flat_map (λ at. entry_bytes at.1.water (offset_of ps at.0)) xs), length-big_endian 5 ((cond x.1.water (2 ^ 39) 0) + offset_of ps x.0), fives ps xs) (omega arith)
+fives : (all : List TileContent) (xs : List (ℕ × TileContent)) → length (flat_map (λ at. entry_bytes at.1.water (offset_of all at.0)) xs) ≡ 5 * length xs
+fives all [] = refl
+fives all (x ∷ xs) = rw (length-append (entry_bytes x.1.water (offset_of all x.0)) (flat_map (λ at. entry_bytes at.1.water (offset_of all at.0)) xs), length-big_endian 5 ((cond x.1.water (2 ^ 39) 0) + offset_of all x.0), fives all xs) (omega arith)
 
 -- the index has five bytes for each tile
-pub length-index_bytes : (ps : List Piece) → length (index_bytes ps) ≡ 5 * length ps
+pub length-index_bytes : (tiles : List TileContent) → length (index_bytes tiles) ≡ 5 * length tiles
 unfolding index_bytes
-length-index_bytes ps = fives ps (zip (range_with_len 0 (length ps)) ps) ∙ ap (λ n. 5 * n) (length-zip (range_with_len 0 (length ps)) ps ∙ rw (length-range_with_len 0 (length ps)) (omega arith))
+length-index_bytes tiles = fives tiles (enumerate_from 0 tiles) ∙ ap (λ n. 5 * n) (length-enumerate_from 0 tiles)
 
-pub length-sub_file : (ps : List Piece) → length (sub_file_of ps) ≡ sub_file_size ps
+pub length-sub_file : (tiles : List TileContent) → length (sub_file_of tiles) ≡ sub_file_size tiles
 unfolding sub_file_of
-length-sub_file ps = length-append (index_bytes ps) (flat_map (λ p. p.bytes) ps) ∙ (λ i. length-index_bytes ps i + length-flat_map (λ (p : Piece). p.bytes) ps i)
+length-sub_file tiles =
+    rw (take-length tiles) (length-append (index_bytes tiles) (flat_map (λ t. t.bytes) tiles) ∙ (λ i. length-index_bytes tiles i + length-flat_map (λ (t : TileContent). t.bytes) tiles i))
 
 -- an entry is read again, whatever follows
-pub entry-again : (water : Bool) (offset : ℕ) (rest : List ℕ) → offset < 2 ^ 39 → entry_of (big_number 5 (entry_bytes water offset ++ rest)) ≡ record { water = water; offset = offset }
+pub entry-again : (water : Bool) (offset : ℕ) (rest : List ℕ) → offset < 2 ^ 39 → index_entry_of (big_number 5 (entry_bytes water offset ++ rest)) ≡ record { water = water; offset = offset }
 unfolding big_endian
 entry-again true offset rest fits =
     rw (big_number-reads_back 5 (2 ^ 39 + offset) rest (omega (arith, fits)))

@@ -1,10 +1,13 @@
 -- The header of a map: Mapsforge map format 5, on the file header.
-use Rattle.std.specs.Prelude.{ℕ, ◌+◌, ◌*◌, ℤ, List, [], ◌∷◌, ◌++◌, zip, flat_map, length, sum_by, Option, is_some, codes}
+use Rattle.std.specs.Prelude.{ℕ, ◌<◌, ◌≤◌, ◌^◌, IfSome, IsTrue, map, sum, take, ◌+◌, ◌*◌, ℤ, List, [], ◌∷◌, ◌++◌, zip, flat_map, length, sum_by, Option, is_some, codes}
 use Rattle.std.specs.Int.{w32, cast_unsigned}
+use Rattle.std.specs.List.{enumerate_from}
+use Rattle.mf_base.specs.Ranges.{is_on_earth}
 use Rattle.mf_base.specs.Spelling.{string, big_endian}
 use Rattle.mf_base.specs.declared.place.Place.{Place}
 use Rattle.mf_base.specs.declared.place.Rect.{Rect}
 use Rattle.mf_base.specs.declared.tile.Interval.{Interval}
+use Rattle.map_model.specs.Tiles.{are_intervals}
 use Rattle.map_model.specs.Layout.{optional, flag}
 use Rattle.map_model.specs.Listed.{TagLists}
 
@@ -17,6 +20,16 @@ pub record HeadSettings : Type 0 where
   pub comment : Option (List ℕ)
   pub created_by : Option (List ℕ)
   pub intervals : List Interval
+
+-- What the words of the command line can say of the header.
+pub record IsHeadSettings (set : HeadSettings) : Type 0 where
+  pub date : set.date < 2 ^ 63
+  pub start : IfSome set.start (λ p. IsTrue (is_on_earth p))
+  pub start_zoom : IfSome set.start_zoom (λ zoom. zoom ≤ 21)
+  pub language : IfSome set.language (λ text. length text ≤ 255)
+  pub comment : IfSome set.comment (λ text. length text ≤ 255)
+  pub created_by : IfSome set.created_by (λ text. length text ≤ 255)
+  pub intervals : IsTrue (are_intervals set.intervals)
 
 -- where a sub-file starts in the file, and how many bytes it has
 pub record SubFile : Type 0 where
@@ -90,7 +103,6 @@ header_size set names = 60 + length (middle_bytes 256 0 set names) + 19 * length
 unfoldable pub header_bytes : HeadSettings → Rect → TagLists → List SubFile → List ℕ
 header_bytes set box names subs = header_fields_bytes (header_size set names + sum_by (λ s. s.size) subs) (written_header set box names subs)
 
--- sub-files of these sizes, each starting where the one before ends
-abbrev pub sub_files_from : ℕ → List ℕ → List SubFile
-sub_files_from start [] = []
-sub_files_from start (size ∷ sizes) = record { start = start; size = size } ∷ sub_files_from (start + size) sizes
+-- sub-files of these sizes, the first behind a header of so many bytes and each behind the one before, without a gap
+unfoldable pub sub_files : ℕ → List ℕ → List SubFile
+sub_files head sizes = map (λ at. record { start = head + sum (take at.0 sizes); size = at.1 }) (enumerate_from 0 sizes)

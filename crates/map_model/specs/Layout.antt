@@ -1,10 +1,10 @@
 -- The bytes of a POI, a way and a tile: Mapsforge map format 5, on tile header, POIs and ways; variable values are this project's profile.
-use Rattle.feature_model.specs.Features.{Block}
-use Rattle.feature_model.specs.Inside.{Ring}
-use Rattle.std.specs.Prelude.{ℕ, ◌+◌, ◌*◌, if◌then◌else◌, Bool, ℤ, pos, ◌+ℤ◌, ◌-ℤ◌, List, [], ◌∷◌, ◌++◌, flat_map, length, Option, Some, None, is_some}
+use Rattle.std.specs.Prelude.{ℕ, map, zip, ◌+◌, ◌*◌, if◌then◌else◌, Bool, ℤ, pos, ◌+ℤ◌, ◌-ℤ◌, List, [], ◌∷◌, ◌++◌, flat_map, length, Option, Some, None, is_some}
 use Rattle.std.specs.Int.{w8, w16, w32, cast_unsigned}
 use Rattle.mf_base.specs.Spelling.{vbe_unsigned, vbe_signed, string, big_endian}
 use Rattle.mf_base.specs.declared.place.Place.{Place}
+use Rattle.feature_model.specs.Features.{Block}
+use Rattle.feature_model.specs.Inside.{Ring}
 use Rattle.feature_model.specs.Mapping.{KeptValue}
 use Rattle.feature_model.specs.Choice.{Kept}
 use Rattle.map_model.specs.Numbers.{above_zero}
@@ -89,8 +89,7 @@ poi_fields_bytes corner p =
 
 -- each place less the one before, the first less the place before them all
 abbrev pub steps_from : Place → Ring → Ring
-steps_from before [] = []
-steps_from before (p ∷ ps) = step before p ∷ steps_from p ps
+steps_from before ps = map (λ at. step at.0 at.1) (zip (before ∷ ps) ps)
 
 -- under double delta each step after the first is written less the step before it, the first one counting as 0
 abbrev pub doubled : Ring → Ring

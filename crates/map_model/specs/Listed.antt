@@ -1,14 +1,13 @@
 -- What a reader of a map sees of a tile. This project's profile.
-use Rattle.feature_model.specs.Features.{Block}
-use Rattle.std.specs.Prelude.{ℕ, ◌==◌, ℤ, List, [], ◌++◌, map, flat_map, zip, Option, slice_index_or, if◌then◌else◌}
+use Rattle.std.specs.Prelude.{ℕ, ◌∷◌, ◌==◌, ℤ, List, [], ◌++◌, map, flat_map, zip, Option, slice_index_or, if◌then◌else◌}
 use Rattle.std.specs.List.{before_first, after_first}
 use Rattle.mf_base.specs.declared.place.Place.{Place}
 use Rattle.mf_base.specs.declared.tile.Interval.{Interval}
 use Rattle.mf_base.specs.declared.tile.TilePlace.{TilePlace}
-use Rattle.feature_model.specs.Mapping.{KeptValue}
+use Rattle.mf_base.specs.Texts.{Text}
+use Rattle.feature_model.specs.Features.{Block, Feature}
+use Rattle.feature_model.specs.Mapping.{KeptValue, Entry, Mapping, ValueKind, value_kind}
 use Rattle.feature_model.specs.Choice.{Kept}
-use Rattle.feature_model.specs.Features.{Feature}
-use Rattle.feature_model.specs.Mapping.{ValueKind, value_kind}
 use Rattle.map_model.specs.Tiles.{is_poi, effective_zoom, sub_tile_bits, zooms}
 use Rattle.map_model.specs.Layout.{PoiFields, WayFields, Level}
 use Rattle.map_model.specs.TileBytes.{poi_fields, way_fields, tile_corner}
@@ -49,6 +48,14 @@ pub data Listed : Type 0 where
   way : ListedWay → Listed
 
 -- ---- tags of the header
+
+-- an entry in the header: `key=value`
+abbrev pub entry_text : Entry → Text
+entry_text e = e.key ++ 61 ∷ e.value
+
+-- the texts of a mapping's entries
+abbrev pub tag_lists : Mapping → TagLists
+tag_lists mapping = record { poi = map entry_text mapping.poi; way = map entry_text mapping.way }
 
 -- what stands before the first `=` of a tag's text, and what stands after it
 abbrev pub tag_key : List ℕ → List ℕ
@@ -92,6 +99,6 @@ shown_levels tags interval levels =
 -- a feature as a reader sees it in a tile
 unfoldable pub listed : TagLists → TilePlace → Feature → Listed
 listed tags tile f =
-    let zoom = effective_zoom tile.interval f in
+    let zoom = effective_zoom tile.interval f.zoom in
     if is_poi f then poi (shown_poi tags.poi zoom (poi_fields f))
     else way (shown_way tags.way zoom (way_fields (tile_corner tile) (sub_tile_bits f tile) f))

@@ -1,27 +1,34 @@
--- The whole map, its limits and the report: Mapsforge map format 5, on the file; limits and report are this project's profile.
-use Rattle.std.specs.Prelude.{ℕ, ◌+◌, ◌-◌, ◌^◌, max, nat_lt, nat_le, Bool, List, [], ◌∷◌, ◌++◌, map, flat_map, length, sum, sum_by, count_by, find, Option, Some, None, option_map, codes, decimal}
+-- The whole map, its limits and the report: Mapsforge Specification, Binary Map File Format, version 5, "File structure"; limits and report are this project's profile.
+use Rattle.std.specs.Prelude.{ℕ, ◌+◌, ◌^◌, ◌≤◌, max, nat_lt, nat_le, List, [], ◌∷◌, ◌++◌, map, flat_map, fold, length, sum_by, count_by, find, Option, option_map, codes, decimal}
 use Rattle.std.specs.List.{enumerate_from}
-use Rattle.mf_base.specs.declared.kind.EntityKind.{EntityKind}
+use Rattle.std.specs.Option.{option_or}
 use Rattle.mf_base.specs.declared.place.Rect.{Rect}
 use Rattle.mf_base.specs.declared.tile.TilePlace.{TilePlace}
-use Rattle.feature_model.specs.Features.{Feature}
-use Rattle.map_model.specs.Numbers.{greatest_of}
+use Rattle.osm_model.specs.Entities.{Entity, nodes_of, ways_of, relations_of}
+use Rattle.feature_model.specs.Mapping.{Mapping}
+use Rattle.feature_model.specs.Features.{Feature, candidates, weight, features, skipped}
+use Rattle.feature_model.specs.Weights.{LimitFault, candidate_fault, largest_candidate}
 use Rattle.map_model.specs.Tiles.{interval_tiles, members, weight_of_tile}
-use Rattle.map_model.specs.SubFile.{Piece, pieces, sub_file_of, sub_file_size}
-use Rattle.map_model.specs.Listed.{TagLists}
-use Rattle.map_model.specs.Header.{HeadSettings, header_size, header_bytes, sub_files_from}
+use Rattle.map_model.specs.SubFile.{TileContent, water, contents, sub_file_of, sub_file_size}
+use Rattle.map_model.specs.Listed.{TagLists, tag_lists}
+use Rattle.map_model.specs.Header.{HeadSettings, header_size, header_bytes, sub_files}
 
--- the pieces of each interval, in order
-unfoldable pub all_pieces : HeadSettings → Rect → List Feature → List (List Piece)
-all_pieces set box features = map (λ at. pieces features box at.0 at.1) (enumerate_from 0 set.intervals)
+-- the contents of the tiles of each interval, in order
+unfoldable pub all_contents : HeadSettings → Rect → List Feature → List (List TileContent)
+all_contents set box features = map (λ at. contents features box at.0 at.1) (enumerate_from 0 set.intervals)
 
 -- the header, followed by the sub-files
-unfoldable pub map_of_pieces : HeadSettings → TagLists → Rect → List (List Piece) → List ℕ
-map_of_pieces set tags box all =
-    header_bytes set box tags (sub_files_from (header_size set tags) (map sub_file_size all)) ++ flat_map sub_file_of all
+unfoldable pub map_of_contents : HeadSettings → TagLists → Rect → List (List TileContent) → List ℕ
+map_of_contents set tags box all =
+    header_bytes set box tags (sub_files (header_size set tags) (map sub_file_size all)) ++ flat_map sub_file_of all
 
-unfoldable pub map_file : HeadSettings → TagLists → Rect → List Feature → List ℕ
-map_file set tags box features = map_of_pieces set tags box (all_pieces set box features)
+-- the map of some features
+unfoldable pub map_of : HeadSettings → TagLists → Rect → List Feature → List ℕ
+map_of set tags box features = map_of_contents set tags box (all_contents set box features)
+
+-- the map of the entities of an input
+unfoldable pub map_file : HeadSettings → Mapping → Rect → List Entity → List ℕ
+map_file set mapping box entities = map_of set (tag_lists mapping) box (features mapping entities)
 
 -- ---- weights and limits
 
@@ -29,66 +36,67 @@ map_file set tags box features = map_of_pieces set tags box (all_pieces set box 
 unfoldable pub all_tiles : HeadSettings → Rect → List TilePlace
 all_tiles set box = flat_map (λ at. interval_tiles box at.0 at.1) (enumerate_from 0 set.intervals)
 
+-- the weight of a tile: those of its members together
 abbrev pub tile_weight : List Feature → TilePlace → ℕ
 tile_weight features tile = weight_of_tile (members features tile)
 
+-- the greatest weight of all tiles, or 0
+unfoldable pub largest_tile : HeadSettings → Rect → List Feature → ℕ
+largest_tile set box features = fold max 0 (map (tile_weight features) (all_tiles set box))
+
 -- the greatest weight of all candidates and tiles, or 0
-unfoldable pub largest : HeadSettings → Rect → List ℕ → List Feature → ℕ
-largest set box candidate_weights features = max (greatest_of candidate_weights) (greatest_of (map (tile_weight features) (all_tiles set box)))
+unfoldable pub largest : HeadSettings → Mapping → Rect → List Entity → ℕ
+largest set mapping box entities = max (largest_candidate mapping entities) (largest_tile set box (features mapping entities))
 
--- what passes a limit
-pub data LimitFault : Type 0 where
-  feature : EntityKind → ℕ → ℕ → LimitFault
-  tile : ℕ → ℕ → ℕ → ℕ → LimitFault
-  sub_file : ℕ → ℕ → LimitFault
+-- a row limit suffices where nothing weighs more
+abbrev pub Suffices : ℕ → HeadSettings → Mapping → Rect → List Entity → Type 0
+Suffices limit set mapping box entities = largest set mapping box entities ≤ limit
 
--- a candidate as the limit sees it: kind, id and weight
-pub record Weighed : Type 0 where
-  pub kind : EntityKind
-  pub id : ℕ
-  pub weight : ℕ
-
--- the first candidate that weighs more than the limit
-abbrev pub feature_limit : ℕ → List Weighed → Option LimitFault
-feature_limit limit candidates = option_map (λ c. feature c.kind c.id c.weight) (find (λ c. nat_lt limit c.weight) candidates)
-
--- the first tile that does, by interval, then y, then x
+-- the first tile that weighs more than the limit, by interval, then y, then x
 unfoldable pub tile_limit : ℕ → HeadSettings → Rect → List Feature → Option LimitFault
 tile_limit limit set box features =
-    option_map (λ t. tile t.index t.x t.y (tile_weight features t)) (find (λ t. nat_lt limit (tile_weight features t)) (all_tiles set box))
+    option_map (λ t. LimitFault.tile t.index t.x t.y (tile_weight features t)) (find (λ t. nat_lt limit (tile_weight features t)) (all_tiles set box))
 
 -- the first interval whose sub-file has 2^39 bytes or more
 unfoldable pub sub_file_limit : List ℕ → Option LimitFault
-sub_file_limit sizes = option_map (λ at. sub_file at.0 at.1) (find (λ at. nat_le (2 ^ 39) at.1) (enumerate_from 0 sizes))
+sub_file_limit sizes = option_map (λ at. LimitFault.sub_file at.0 at.1) (find (λ at. nat_le (2 ^ 39) at.1) (enumerate_from 0 sizes))
 
+-- the sizes of the sub-files, in bytes
 abbrev pub sub_file_sizes : HeadSettings → Rect → List Feature → List ℕ
-sub_file_sizes set box features = map sub_file_size (all_pieces set box features)
+sub_file_sizes set box features = map sub_file_size (all_contents set box features)
 
-abbrev pub or_else : {X : Type 0} → Option X → Option X → Option X
-or_else (Some x) o = Some x
-or_else None o = o
+-- the first tile, else the first sub-file that passes its limit
+unfoldable pub layout_fault : ℕ → HeadSettings → Rect → List Feature → Option LimitFault
+layout_fault limit set box features = option_or (tile_limit limit set box features) (sub_file_limit (sub_file_sizes set box features))
 
 -- the first candidate, else the first tile, else the first sub-file that passes its limit
-unfoldable pub limit_fault : ℕ → HeadSettings → Rect → List Weighed → List Feature → Option LimitFault
-limit_fault limit set box candidates features =
-    or_else (feature_limit limit candidates) (or_else (tile_limit limit set box features) (sub_file_limit (sub_file_sizes set box features)))
+unfoldable pub limit_fault : ℕ → HeadSettings → Mapping → Rect → List Entity → Option LimitFault
+limit_fault limit set mapping box entities = option_or (candidate_fault limit mapping entities) (layout_fault limit set box (features mapping entities))
 
--- the entities of an input
-pub record EntityCounts : Type 0 where
-  pub nodes : ℕ
-  pub ways : ℕ
-  pub relations : ℕ
-  pub refs : ℕ
-  pub members : ℕ
+-- ---- sizes
 
--- nodes, refs and members, the weights of all candidates, the tiles of all intervals, and the weights of the members of each tile
-unfoldable pub job_size : HeadSettings → Rect → EntityCounts → List ℕ → List Feature → ℕ
-job_size set box counts candidate_weights features =
-    counts.nodes + counts.refs + counts.members + sum candidate_weights
-    + length (all_tiles set box) + sum_by (tile_weight features) (all_tiles set box)
+-- nodes, refs and members of an input, and the weights of all candidates
+unfoldable pub shape_size : Mapping → List Entity → ℕ
+shape_size mapping entities =
+    length (nodes_of entities) + sum_by (λ w. length w.refs) (ways_of entities) + sum_by (λ r. length r.members) (relations_of entities)
+    + sum_by weight (candidates mapping entities)
+
+-- besides, the tiles of all intervals, and over each member of each tile its weight
+unfoldable pub job_size : HeadSettings → Mapping → Rect → List Entity → ℕ
+job_size set mapping box entities =
+    shape_size mapping entities + length (all_tiles set box) + sum_by (tile_weight (features mapping entities)) (all_tiles set box)
 
 -- ---- report
 
+-- how many tiles have members
+unfoldable pub shown_tiles : HeadSettings → Rect → List Feature → ℕ
+shown_tiles set box features = count_by (λ tile. nat_lt 0 (length (members features tile))) (all_tiles set box)
+
+-- how many tiles have the water bit
+unfoldable pub water_tiles : HeadSettings → Rect → List Feature → ℕ
+water_tiles set box features = count_by (λ tile. water tile (members features tile)) (all_tiles set box)
+
+-- What a finished run tells: the entities of the input by kind, features and skipped candidates, tiles with members and with the water bit, the bytes of the map, and the greatest weight.
 pub record Report : Type 0 where
   pub nodes : ℕ
   pub ways : ℕ
@@ -100,32 +108,29 @@ pub record Report : Type 0 where
   pub bytes : ℕ
   pub largest : ℕ
 
-abbrev pub has_members : Piece → Bool
-has_members p = nat_lt 0 (length p.bytes)
-
--- the numbers of a finished run, of as many candidates as have a weight
-unfoldable pub report : HeadSettings → TagLists → Rect → EntityCounts → List ℕ → List Feature → Report
-report set tags box counts candidate_weights features =
-    let all = all_pieces set box features in
+-- the report of the map of an input
+unfoldable pub report : HeadSettings → Mapping → Rect → List Entity → Report
+report set mapping box entities =
+    let shown = features mapping entities in
     record {
-      nodes = counts.nodes;
-      ways = counts.ways;
-      relations = counts.relations;
-      features = length features;
-      skipped = length candidate_weights - length features;
-      tiles = sum_by (λ ps. count_by has_members ps) all;
-      water = sum_by (λ ps. count_by (λ p. p.water) ps) all;
-      bytes = length (map_of_pieces set tags box all);
-      largest = largest set box candidate_weights features;
+      nodes = length (nodes_of entities);
+      ways = length (ways_of entities);
+      relations = length (relations_of entities);
+      features = length shown;
+      skipped = skipped mapping entities;
+      tiles = shown_tiles set box shown;
+      water = water_tiles set box shown;
+      bytes = length (map_file set mapping box entities);
+      largest = largest set mapping box entities;
     }
 
--- a word, a blank and a number
-abbrev pub told : List ℕ → ℕ → List ℕ
-told word n = word ++ 32 ∷ decimal n
+-- a word, a blank and a number in decimal
+abbrev pub worded : List ℕ → ℕ → List ℕ
+worded word n = word ++ 32 ∷ decimal n
 
 -- the one line that a finished run says
 unfoldable pub report_line : Report → List ℕ
 report_line r =
-    told (codes "nodes") r.nodes ++ told (codes " ways") r.ways ++ told (codes " relations") r.relations
-    ++ told (codes " features") r.features ++ told (codes " skipped") r.skipped ++ told (codes " tiles") r.tiles
-    ++ told (codes " water") r.water ++ told (codes " bytes") r.bytes ++ told (codes " largest") r.largest ++ 10 ∷ []
+    worded (codes "nodes") r.nodes ++ worded (codes " ways") r.ways ++ worded (codes " relations") r.relations
+    ++ worded (codes " features") r.features ++ worded (codes " skipped") r.skipped ++ worded (codes " tiles") r.tiles
+    ++ worded (codes " water") r.water ++ worded (codes " bytes") r.bytes ++ worded (codes " largest") r.largest ++ 10 ∷ []

@@ -1,14 +1,14 @@
 -- Features of the worked rows.
-use Rattle.feature_model.specs.Inside.{Ring}
 use Rattle.std.specs.Prelude.{ℕ, ℤ, pos, negsuc, List, [], ◌∷◌, ◌++◌, None, true, false, codes, replicate}
 use Rattle.mf_base.specs.declared.kind.EntityKind.TheVariants.{Node, Way}
 use Rattle.mf_base.specs.declared.place.Place.{Place}
 use Rattle.mf_base.specs.declared.place.Rect.{Rect}
 use Rattle.mf_base.specs.declared.tile.TilePlace.{TilePlace}
+use Rattle.feature_model.specs.Inside.{Ring}
 use Rattle.feature_model.specs.Mapping.{KeptValue}
 use Rattle.feature_model.specs.Features.{Shape, Feature}
 use Rattle.map_model.specs.Header.{HeadSettings}
-use Rattle.map_model.specs.MapFile.{EntityCounts, Report}
+use Rattle.map_model.specs.MapFile.{Report}
 use Rattle.map_model.specs.Listed.{TagLists, ShownTag, Listed, poi}
 
 abbrev pub at_place : ℤ → ℤ → Place
@@ -137,10 +137,7 @@ garden_bytes =
 abbrev pub garden_tile : List ℕ
 garden_tile = replicate 35 0 ++ 0x01 ∷ replicate 8 0 ++ 0x00 ∷ garden_bytes
 
--- the entities of an input of one node, and the report of the bench's map
-abbrev pub one_node : EntityCounts
-one_node = record { nodes = 1; ways = 0; relations = 0; refs = 0; members = 0 }
-
+-- the report of the map of the bench
 abbrev pub bench_numbers : Report
 bench_numbers = record { nodes = 1; ways = 0; relations = 0; features = 1; skipped = 0; tiles = 1; water = 0; bytes = 144; largest = 11 }
 

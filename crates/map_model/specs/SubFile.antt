@@ -1,6 +1,6 @@
 -- The tile index and the tiles of a zoom interval: Mapsforge map format 5, on sub-files; the water test is this project's profile.
-use Rattle.std.specs.Prelude.{ℕ, ◌+◌, ◌*◌, ◌^◌, if◌then◌else◌, Bool, not, ◌&&◌, List, [], ◌∷◌, ◌++◌, map, zip, flat_map, length, take, sum_by}
-use Rattle.std.specs.List.{range_with_len, list_any, list_all}
+use Rattle.std.specs.Prelude.{ℕ, ◌+◌, ◌*◌, ◌^◌, if◌then◌else◌, Bool, not, ◌&&◌, List, [], ◌∷◌, ◌++◌, map, flat_map, length, take, sum_by}
+use Rattle.std.specs.List.{enumerate_from, list_any, list_all}
 use Rattle.mf_base.specs.Spelling.{big_endian}
 use Rattle.mf_base.specs.declared.place.Place.{Place}
 use Rattle.mf_base.specs.declared.place.Rect.{Rect}
@@ -26,41 +26,39 @@ covers tile f =
 unfoldable pub water : TilePlace → List Feature → Bool
 water tile members = list_any (covers tile) members
 
--- what a sub-file has of a tile
-pub record Piece : Type 0 where
+-- what a sub-file has of a tile: its water bit and its bytes
+pub record TileContent : Type 0 where
   pub water : Bool
   pub bytes : List ℕ
 
-unfoldable pub piece_of : TilePlace → List Feature → Piece
-piece_of tile members = record { water = water tile members; bytes = tile_bytes tile members }
+-- the content of a tile with these members
+unfoldable pub content_of : TilePlace → List Feature → TileContent
+content_of tile members = record { water = water tile members; bytes = tile_bytes tile members }
 
--- the pieces of an interval's tiles, row by row from the north and west to east
-unfoldable pub pieces : List Feature → Rect → ℕ → Interval → List Piece
-pieces features box index interval = map (λ tile. piece_of tile (members features tile)) (interval_tiles box index interval)
+-- the contents of an interval's tiles, row by row from the north and west to east
+unfoldable pub contents : List Feature → Rect → ℕ → Interval → List TileContent
+contents features box index interval = map (λ tile. content_of tile (members features tile)) (interval_tiles box index interval)
 
--- five bytes: the top bit is the water bit, and the other 39 are the offset
+-- five bytes, the highest first: the top bit is the water bit, and the other 39 are the offset
 abbrev pub entry_bytes : Bool → ℕ → List ℕ
 entry_bytes water offset = big_endian 5 ((if water then 2 ^ 39 else 0) + offset)
 
--- the lengths of some pieces together
-abbrev pub size_of_pieces : List Piece → ℕ
-size_of_pieces ps = sum_by (λ p. length p.bytes) ps
+-- The offset of tile j from the start of the sub-file, in bytes: five for each entry of the index, and the tiles before it.
+abbrev pub offset_of : List TileContent → ℕ → ℕ
+offset_of tiles j = 5 * length tiles + sum_by (λ t. length t.bytes) (take j tiles)
 
--- the offset of tile j: five bytes for each entry of the index, and the tiles before it
-abbrev pub offset_of : List Piece → ℕ → ℕ
-offset_of ps j = 5 * length ps + size_of_pieces (take j ps)
-
--- one entry for each tile
-unfoldable pub index_bytes : List Piece → List ℕ
-index_bytes ps = flat_map (λ at. entry_bytes at.1.water (offset_of ps at.0)) (zip (range_with_len 0 (length ps)) ps)
+-- the tile index: one entry for each tile
+unfoldable pub index_bytes : List TileContent → List ℕ
+index_bytes tiles = flat_map (λ at. entry_bytes at.1.water (offset_of tiles at.0)) (enumerate_from 0 tiles)
 
 -- the index, then the tiles
-unfoldable pub sub_file_of : List Piece → List ℕ
-sub_file_of ps = index_bytes ps ++ flat_map (λ p. p.bytes) ps
+unfoldable pub sub_file_of : List TileContent → List ℕ
+sub_file_of tiles = index_bytes tiles ++ flat_map (λ t. t.bytes) tiles
 
--- the bytes before the first tile, and those of the tiles
-abbrev pub sub_file_size : List Piece → ℕ
-sub_file_size ps = 5 * length ps + size_of_pieces ps
+-- the size of a sub-file, in bytes: the offset at which a further tile would stand
+abbrev pub sub_file_size : List TileContent → ℕ
+sub_file_size tiles = offset_of tiles (length tiles)
 
+-- the sub-file of an interval
 unfoldable pub sub_file : List Feature → Rect → ℕ → Interval → List ℕ
-sub_file features box index interval = sub_file_of (pieces features box index interval)
+sub_file features box index interval = sub_file_of (contents features box index interval)

@@ -1,13 +1,11 @@
 -- The bytes of features in a tile: Mapsforge map format 5, on tile header, POIs and ways; the choices are this project's profile.
-use Rattle.std.specs.Prelude.{ℕ, nat_lt, ◌==◌, Bool, true, false, List, [], ◌∷◌, ◌++◌, map, flat_map, filter, sum_by, count_by, length}
-use Rattle.mf_base.specs.Spelling.{vbe_unsigned}
+use Rattle.std.specs.Prelude.{ℕ, nat_lt, Bool, true, false, List, [], ◌∷◌, map, filter, sum_by, length}
 use Rattle.mf_base.specs.declared.place.Place.{Place}
-use Rattle.mf_base.specs.declared.tile.Interval.{Interval}
 use Rattle.mf_base.specs.declared.tile.TilePlace.{TilePlace}
 use Rattle.feature_model.specs.Features.{Feature}
 use Rattle.map_model.specs.Mercator.{corner}
-use Rattle.map_model.specs.Tiles.{blocks_of, rings_of, places_of, first_place, is_poi, is_way, effective_zoom, zooms, of_zoom, sub_tile_bits, label_place}
-use Rattle.map_model.specs.Layout.{PoiFields, WayFields, Level, sized, coordinate_bytes, poi_fields_bytes, way_fields_bytes}
+use Rattle.map_model.specs.Tiles.{blocks_of_shape, rings_of, places_of, first_place, is_poi, is_way, zooms, of_zoom, sub_tile_bits, label_place}
+use Rattle.map_model.specs.Layout.{PoiFields, WayFields, Level, coordinate_bytes, poi_fields_bytes, way_fields_bytes, levels_bytes}
 
 -- what is written of a POI
 unfoldable pub poi_fields : Feature → PoiFields
@@ -35,9 +33,9 @@ way_fields corner bits f = record {
   house = f.house;
   reference = f.reference;
   label = label_place f;
-  counted = nat_lt 1 (length (blocks_of f.shape));
+  counted = nat_lt 1 (length (blocks_of_shape f.shape));
   double = is_double corner f;
-  blocks = blocks_of f.shape;
+  blocks = blocks_of_shape f.shape;
 }
 
 unfoldable pub way_bytes : Place → ℕ → Feature → List ℕ
@@ -45,27 +43,6 @@ way_bytes corner bits f = way_fields_bytes corner (way_fields corner bits f)
 
 abbrev pub tile_corner : TilePlace → Place
 tile_corner tile = corner tile.interval.base tile.x tile.y
-
--- how many features have the effective zoom
-abbrev pub zoom_count : Interval → ℕ → List Feature → ℕ
-zoom_count interval zoom features = count_by (λ f. effective_zoom interval f == zoom) features
-
--- per zoom level from min to max the number of POIs and the number of ways with that effective zoom
-unfoldable pub zoom_table : Interval → List Feature → List ℕ
-zoom_table interval members =
-    flat_map (λ zoom. vbe_unsigned (zoom_count interval zoom (filter is_poi members)) ++ vbe_unsigned (zoom_count interval zoom (filter is_way members))) (zooms interval)
-
--- the zoom table, the first-way offset, the POIs, the ways
-unfoldable pub some_tile_bytes : Place → TilePlace → List Feature → List ℕ
-some_tile_bytes corner tile members =
-    zoom_table tile.interval members
-    ++ sized (flat_map (poi_bytes corner) (filter is_poi members))
-    ++ flat_map (λ f. way_bytes corner (sub_tile_bits f tile) f) (filter is_way members)
-
--- a tile without members takes no bytes
-unfoldable pub tile_bytes : TilePlace → List Feature → List ℕ
-tile_bytes tile [] = []
-tile_bytes tile (f ∷ members) = some_tile_bytes (tile_corner tile) tile (f ∷ members)
 
 -- what is written of the members of one effective zoom, and of all
 unfoldable pub written_level : Place → TilePlace → List Feature → ℕ → Level
@@ -76,3 +53,8 @@ written_level corner tile members zoom = record {
 
 unfoldable pub written_levels : TilePlace → List Feature → List Level
 written_levels tile members = map (written_level (tile_corner tile) tile members) (zooms tile.interval)
+
+-- The zoom table, the first-way offset, the POIs, the ways. A tile without members takes no bytes.
+unfoldable pub tile_bytes : TilePlace → List Feature → List ℕ
+tile_bytes tile [] = []
+tile_bytes tile (f ∷ members) = levels_bytes (tile_corner tile) (written_levels tile (f ∷ members))

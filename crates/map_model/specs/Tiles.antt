@@ -1,9 +1,8 @@
 -- Tiles, and which features are in them: Mapsforge map format 5, on tiles and base zoom levels; this project's profile.
-use Rattle.feature_model.specs.Features.{Block}
-use Rattle.feature_model.specs.Inside.{Ring}
-use Rattle.std.specs.Prelude.{ℕ, suc, ◌+◌, ◌-◌, ◌*◌, ◌^◌, max, min, nat_le, ◌==◌, if◌then◌else◌, Bool, true, false, not, ◌&&◌, pos, ◌+ℤ◌, List, [], ◌∷◌, ◌++◌, map, filter, flat_map, fold, sum_by, length, slice_index_or, Option, Some, None}
+use Rattle.std.specs.Prelude.{ℕ, suc, ◌/◌, ◌%◌, zip, drop, ◌+◌, ◌-◌, ◌*◌, ◌^◌, max, min, nat_le, ◌==◌, if◌then◌else◌, Bool, true, false, not, ◌&&◌, pos, ◌+ℤ◌, List, [], ◌∷◌, ◌++◌, map, filter, flat_map, fold, sum_by, length, slice_index_or, Option, Some, None}
 use Rattle.std.specs.Int.{int_min, int_max}
-use Rattle.std.specs.List.{range_with_len}
+use Rattle.std.specs.List.{range_with_len, list_all}
+use Rattle.std.specs.Ordering.{int_eq}
 use Rattle.mf_base.specs.declared.place.Place.{Place}
 use Rattle.mf_base.specs.declared.place.Rect.{Rect}
 use Rattle.mf_base.specs.declared.kind.EntityKind.{EntityKind}
@@ -11,17 +10,18 @@ use Rattle.mf_base.specs.declared.kind.EntityKind.TheVariants.{Node, Way, Relati
 use Rattle.mf_base.specs.declared.tile.Interval.{Interval}
 use Rattle.mf_base.specs.declared.tile.TilePlace.{TilePlace}
 use Rattle.mf_base.specs.declared.tile.TileRect.{TileRect}
-use Rattle.feature_model.specs.Features.{Shape, Feature}
-use Rattle.map_model.specs.Numbers.{floor_div, int_eq}
+use Rattle.feature_model.specs.Features.{Block, Shape, Feature}
+use Rattle.feature_model.specs.Inside.{Ring}
+use Rattle.map_model.specs.Numbers.{floor_div}
 use Rattle.map_model.specs.Mercator.{row, column}
 
 -- the blocks of rings of a feature; a node has none
-abbrev pub blocks_of : Shape → List Block
-blocks_of (Shape.point p) = []
-blocks_of (Shape.blocks found) = found
+abbrev pub blocks_of_shape : Shape → List Block
+blocks_of_shape (Shape.point p) = []
+blocks_of_shape (Shape.blocks found) = found
 
 abbrev pub rings_of : Feature → Block
-rings_of f = flat_map (λ rings. rings) (blocks_of f.shape)
+rings_of f = flat_map (λ rings. rings) (blocks_of_shape f.shape)
 
 -- the places of a feature, a node having one
 abbrev pub places_of_shape : Shape → Ring
@@ -79,6 +79,23 @@ tiles_of t = flat_map (λ y. map (λ x. (x, y)) (from_to t.first_x t.last_x)) (f
 abbrev pub entry_place : TileRect → ℕ → ℕ → ℕ
 entry_place t x y = (y - t.first_y) * (suc t.last_x - t.first_x) + (x - t.first_x)
 
+-- how many tiles a rectangle meets
+abbrev pub tile_count : TileRect → ℕ
+tile_count t = (suc t.last_x - t.first_x) * (suc t.last_y - t.first_y)
+
+-- ---- intervals
+
+-- the minimum is at most the base and the base at most the maximum, the base at most 16, and the maximum at most 21
+abbrev pub is_zoom_range : Interval → Bool
+is_zoom_range interval = nat_le interval.min interval.base && nat_le interval.base interval.max && nat_le interval.base 16 && nat_le interval.max 21
+
+-- 1 to 8 intervals, of which each minimum is the maximum before plus 1
+abbrev pub are_intervals : List Interval → Bool
+are_intervals intervals =
+    nat_le 1 (length intervals) && nat_le (length intervals) 8 && list_all is_zoom_range intervals
+    && list_all (λ at. at.1.min == suc at.0.max) (zip intervals (drop 1 intervals))
+
+-- the tile of an interval with this column and row
 abbrev pub tile_place : ℕ → Interval → ℕ × ℕ → TilePlace
 tile_place index interval at = record { index = index; interval = interval; x = at.0; y = at.1 }
 
@@ -100,12 +117,13 @@ is_poi f = is_node f.kind
 abbrev pub is_way : Feature → Bool
 is_way f = not (is_poi f)
 
-abbrev pub effective_zoom : Interval → Feature → ℕ
-effective_zoom interval f = max f.zoom interval.min
+-- the effective zoom of a zoom in an interval: the greater of it and the minimum
+abbrev pub effective_zoom : Interval → ℕ → ℕ
+effective_zoom interval zoom = max zoom interval.min
 
--- an interval shows a zoom up to its maximum
+-- the effective zoom of a zoom that the interval shows, which it does up to its maximum
 abbrev pub shown_zoom : ℕ → Interval → Option ℕ
-shown_zoom zoom interval = if nat_le zoom interval.max then Some (max zoom interval.min) else None
+shown_zoom zoom interval = if nat_le zoom interval.max then Some (effective_zoom interval zoom) else None
 
 -- the features that meet the tile and whose zoom is at most the maximum
 unfoldable pub in_tile : TilePlace → List Feature → List Feature
@@ -116,7 +134,7 @@ zooms interval = from_to interval.min interval.max
 
 -- those of one effective zoom
 abbrev pub of_zoom : Interval → ℕ → List Feature → List Feature
-of_zoom interval zoom features = filter (λ f. effective_zoom interval f == zoom) features
+of_zoom interval zoom features = filter (λ f. effective_zoom interval f.zoom == zoom) features
 
 -- by effective zoom, and in their order within one
 abbrev pub by_zoom : Interval → List Feature → List Feature
@@ -135,13 +153,9 @@ weight_of_tile members = sum_by (λ f. f.weight) members
 
 -- ---- bits and labels
 
--- bit 15 - (4 r + c) is set where the rectangle meets sub-tile (z + 2, 4 x + c, 4 y + r)
-abbrev pub sub_tile_bit : Rect → ℕ → ℕ → ℕ → ℕ → ℕ → ℕ
-sub_tile_bit rect z x y r c = if meets rect (z + 2) (4 * x + c) (4 * y + r) then 2 ^ (15 - (4 * r + c)) else 0
-
--- the sixteen bits of a rectangle in tile (z, x, y)
+-- The sixteen bits of a rectangle in tile (z, x, y), the highest first: one for each sub-tile two zoom levels below, row by row from the north and west to east, set where the rectangle meets it.
 unfoldable pub rect_bits : Rect → ℕ → ℕ → ℕ → ℕ
-rect_bits rect z x y = sum_by (λ r. sum_by (λ c. sub_tile_bit rect z x y r c) (0 ∷ 1 ∷ 2 ∷ 3 ∷ [])) (0 ∷ 1 ∷ 2 ∷ 3 ∷ [])
+rect_bits rect z x y = sum_by (λ n. if meets rect (z + 2) (4 * x + n % 4) (4 * y + n / 4) then 2 ^ (15 - n) else 0) (range_with_len 0 16)
 
 -- the bitmap of a feature; with the coast mark all sixteen bits are set
 unfoldable pub sub_tile_bits : Feature → TilePlace → ℕ
@@ -150,7 +164,7 @@ sub_tile_bits f tile = if f.coast then 65535 else rect_bits (rect_of f) tile.int
 abbrev pub same_place : Place → Place → Bool
 same_place a b = int_eq a.lat b.lat && int_eq a.lon b.lon
 
--- the first and the last place are equal
+-- A ring is closed where its first and its last place are equal, whatever nodes they come from.
 abbrev pub is_closed : Ring → Bool
 is_closed [] = false
 is_closed (p ∷ ps) = same_place p (slice_index_or (p ∷ ps) (length ps) p)

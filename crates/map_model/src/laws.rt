@@ -1,20 +1,21 @@
 //! Laws of the definitions.
 
-ghost use Rattle.std.specs.Prelude.{◌≡◌, ℕ, ℤ, Bool, ◌≤◌, ◌<◌, ◌*◌, ◌^◌, ◌≤ℤ◌, int_le, false, List, ◌∷◌, ◌++◌, length, map, Ok};
+ghost use Rattle.std.specs.Prelude.{◌≡◌, ◌==◌, flat_map, count_by, filter, ℕ, ℤ, Bool, ◌≤◌, ◌<◌, ◌*◌, ◌^◌, ◌≤ℤ◌, int_le, false, List, ◌∷◌, ◌++◌, length, map, Ok};
+ghost use Rattle.std.specs.List.{AllByRecursion};
 ghost use Rattle.byteorder.specs.Endian.{big_number};
 ghost use Rattle.mf_base.specs.declared.place.Rect.{Rect};
 ghost use Rattle.mf_base.specs.declared.tile.TilePlace.{TilePlace};
+ghost use Rattle.mf_base.specs.Spelling.{vbe_unsigned};
 ghost use Rattle.feature_model.specs.Features.{Feature};
 ghost use Rattle.map_model.specs.Mercator.{edge_lat, fine_row, IsFineRow};
-ghost use Rattle.map_model.specs.Tiles.{in_order, members};
-ghost use Rattle.map_model.specs.Layout.{levels_bytes};
-ghost use Rattle.map_model.specs.TileBytes.{tile_corner, tile_bytes, written_levels};
+ghost use Rattle.map_model.specs.Tiles.{in_order, members, is_poi, is_way, effective_zoom, zooms, sub_tile_bits};
+ghost use Rattle.map_model.specs.Layout.{sized};
+ghost use Rattle.map_model.specs.TileBytes.{tile_corner, tile_bytes, written_levels, poi_bytes, way_bytes};
 ghost use Rattle.map_model.specs.Listed.{TagLists, Listed, shown_levels, listed};
 ghost use Rattle.map_model.specs.TileReading.{IsLevel, ReadsTile, read_tile};
-ghost use Rattle.std.specs.List.{AllByRecursion};
-ghost use Rattle.map_model.specs.SubFile.{Piece, entry_bytes, index_bytes, sub_file_of, sub_file_size};
+ghost use Rattle.map_model.specs.SubFile.{TileContent, entry_bytes, index_bytes, sub_file_of, sub_file_size};
 ghost use Rattle.map_model.specs.Header.{HeadSettings, SubFile, header_size, header_bytes};
-ghost use Rattle.map_model.specs.Listing.{entry_of};
+ghost use Rattle.map_model.specs.Listing.{index_entry_of};
 
 /// The edges of the rows never rise, so a row is found between two of them.
 #[tactic(auto, using(crate::proofs::MercatorLemmas::row_laws))]
@@ -24,11 +25,13 @@ pub fn row_between_edges()
     ensures none { (lat : ℤ) → int_le lat (edge_lat 0) ≡ false → fine_row lat ≡ 0 }
 {}
 
-/// The bytes of a tile whose members stand in order are laid out by zoom levels, and tell each member.
+/// The bytes of a tile whose members stand in order are the zoom table, the first-way offset, the POIs and the ways, and tell each member.
 #[tactic(auto, using(crate::proofs::LevelLemmas::level_laws))]
 pub fn tile_tells_its_members()
-    ensures spelt { (tile : TilePlace) (f : Feature) (fs : List Feature) → f ∷ fs ≡ in_order tile.interval (f ∷ fs)
-        → tile_bytes tile (f ∷ fs) ≡ levels_bytes (tile_corner tile) (written_levels tile (f ∷ fs)) }
+    ensures flat { (tile : TilePlace) (f : Feature) (fs : List Feature) → f ∷ fs ≡ in_order tile.interval (f ∷ fs)
+        → tile_bytes tile (f ∷ fs) ≡ flat_map (λ zoom. vbe_unsigned (count_by (λ g. effective_zoom tile.interval g.zoom == zoom) (filter is_poi (f ∷ fs))) ++ vbe_unsigned (count_by (λ g. effective_zoom tile.interval g.zoom == zoom) (filter is_way (f ∷ fs)))) (zooms tile.interval)
+        ++ sized (flat_map (poi_bytes (tile_corner tile)) (filter is_poi (f ∷ fs)))
+        ++ flat_map (λ g. way_bytes (tile_corner tile) (sub_tile_bits g tile) g) (filter is_way (f ∷ fs)) }
     ensures shown { (tags : TagLists) (tile : TilePlace) (fs : List Feature) → fs ≡ in_order tile.interval fs
         → shown_levels tags tile.interval (written_levels tile fs) ≡ map (listed tags tile) fs }
     ensures in_order { (features : List Feature) (tile : TilePlace) → members features tile ≡ in_order tile.interval (members features tile) }
@@ -39,10 +42,10 @@ pub fn tile_tells_its_members()
 pub fn sizes()
     ensures header { (set : HeadSettings) (box : Rect) (names : TagLists) (subs : List SubFile) → length subs ≡ length set.intervals
         → length (header_bytes set box names subs) ≡ header_size set names }
-    ensures sub_file { (ps : List Piece) → length (sub_file_of ps) ≡ sub_file_size ps }
-    ensures index { (ps : List Piece) → length (index_bytes ps) ≡ 5 * length ps }
+    ensures sub_file { (tiles : List TileContent) → length (sub_file_of tiles) ≡ sub_file_size tiles }
+    ensures index { (tiles : List TileContent) → length (index_bytes tiles) ≡ 5 * length tiles }
     ensures entry { (water : Bool) (offset : ℕ) (rest : List ℕ) → offset < 2 ^ 39
-        → entry_of (big_number 5 (entry_bytes water offset ++ rest)) ≡ record { water = water; offset = offset } }
+        → index_entry_of (big_number 5 (entry_bytes water offset ++ rest)) ≡ record { water = water; offset = offset } }
 {}
 
 /// A tile that spells some records is read as these, so it spells no others; and a tile of members is read as what is listed of them.

@@ -1,7 +1,8 @@
 //! Worked rows: what the definitions give for small maps, byte by byte.
 
-ghost use Rattle.std.specs.Prelude.{◌≡◌, ◌++◌, [], ◌∷◌, length, take, set, Some, None, Ok, Err, true, false, pos, negsuc, codes};
+ghost use Rattle.std.specs.Prelude.{◌≡◌, ◌++◌, [], ◌∷◌, length, take, set, Some, Ok, Err, true, false, pos, negsuc, codes};
 ghost use Rattle.feature_model.specs.Mapping.{KeptValue};
+ghost use Rattle.feature_model.specs.Samples.{benches, bench_with};
 ghost use Rattle.map_model.specs.Mercator.{raw_lat, row, column, corner, corner_lon};
 ghost use Rattle.map_model.specs.Layout.{coordinate_bytes};
 ghost use Rattle.map_model.specs.SubFile.{water};
@@ -9,11 +10,11 @@ ghost use Rattle.map_model.specs.TileBytes.{poi_bytes, way_bytes, is_double};
 ghost use Rattle.map_model.specs.HeaderReading.{HeaderKind};
 ghost use Rattle.map_model.specs.TileReading.{TileKind};
 ghost use Rattle.map_model.specs.MapFile.{map_file, report, report_line};
-ghost use Rattle.map_model.specs.Listing.{ShowFault, show, listing, tile_text, way_line};
-ghost use Rattle.map_model.specs.Samples.{at_place, lake, lake_tile, world_corner, bench, bench_with_value, way_of, garden, garden_bytes, eastward, settings_to, degree_box, bench_tags, bench_map, empty_map, listed_bench, one_node, bench_numbers};
+ghost use Rattle.map_model.specs.Listing.{ShowFault, show, listing, tile_text};
+ghost use Rattle.map_model.specs.Samples.{at_place, lake, lake_tile, world_corner, bench, bench_with_value, way_of, garden, garden_bytes, eastward, settings_to, degree_box, bench_map, empty_map, listed_bench, bench_numbers};
 
 /// The corners and columns that need no look at the whole table.
-#[tactic(auto, using(crate::proofs::MercatorRows::corner_rows))]
+#[tactic(auto, unfolding(crate::proofs::Compute::latitudes))]
 pub fn corners()
     ensures north { raw_lat 131072 ≡ 85051128 }
     ensures zoom_2 { raw_lat 65536 ≡ 66513260 }
@@ -28,7 +29,7 @@ pub fn corners()
 {}
 
 /// POIs of one bench, with a name, with a height, and with values in place of the bench.
-#[tactic(auto, using(crate::proofs::FeatureRows::poi_rows))]
+#[tactic(auto, unfolding(crate::proofs::Compute::compute))]
 pub fn pois()
     ensures bench { poi_bytes world_corner bench ≡ 0xF8 ∷ 0x8D ∷ 0xC7 ∷ 0x68 ∷ 0x80 ∷ 0xAA ∷ 0xEA ∷ 0xD5 ∷ 0x00 ∷ 0x51 ∷ 0x00 ∷ 0x00 ∷ [] }
     ensures bench_with_name { poi_bytes world_corner (record bench { name = Some (codes "Spring") }) ≡ 0xF8 ∷ 0x8D ∷ 0xC7 ∷ 0x68 ∷ 0x80 ∷ 0xAA ∷ 0xEA ∷ 0xD5 ∷ 0x00 ∷ 0x51 ∷ 0x00 ∷ 0x80 ∷ 0x06 ∷ 0x53 ∷ 0x70 ∷ 0x72 ∷ 0x69 ∷ 0x6E ∷ 0x67 ∷ [] }
@@ -39,7 +40,7 @@ pub fn pois()
 {}
 
 /// A closed way with a label, and a way of equal steps, which is under double delta.
-#[tactic(auto, using(crate::proofs::FeatureRows::way_rows))]
+#[tactic(auto, unfolding(crate::proofs::Compute::compute))]
 pub fn ways()
     ensures garden_with_label { way_bytes world_corner 0x0220 garden ≡ garden_bytes }
     ensures double_delta { is_double world_corner (way_of eastward) ≡ true }
@@ -49,18 +50,18 @@ pub fn ways()
 {}
 
 /// The whole map of one bench, and that of none.
-#[tactic(auto, using(crate::proofs::MapRows::map_rows))]
+#[tactic(auto, using(crate::proofs::MapRows::map_rows), unfolding(crate::proofs::Compute::compute))]
 pub fn maps()
-    ensures one_bench { map_file (settings_to 7) bench_tags degree_box (bench ∷ []) ≡ bench_map }
+    ensures one_bench { map_file (settings_to 7) benches degree_box (bench_with []) ≡ bench_map }
     ensures one_bench_length { length bench_map ≡ 144 }
-    ensures header_alone { map_file (settings_to 7) bench_tags degree_box [] ≡ empty_map }
+    ensures header_alone { map_file (settings_to 7) benches degree_box [] ≡ empty_map }
     ensures header_alone_length { length empty_map ≡ 115 }
-    ensures report { report (settings_to 7) bench_tags degree_box one_node (11 ∷ []) (bench ∷ []) ≡ bench_numbers }
+    ensures report { report (settings_to 7) benches degree_box (bench_with []) ≡ bench_numbers }
     ensures report_text { report_line bench_numbers ≡ codes "nodes 1 ways 0 relations 0 features 1 skipped 0 tiles 1 water 0 bytes 144 largest 11" ++ 10 ∷ [] }
 {}
 
 /// The tile of one bench as it is read again, and what is refused.
-#[tactic(auto, using(crate::proofs::ListingRows::listing_rows))]
+#[tactic(auto, using(crate::proofs::ListingRows::listing_rows), unfolding(crate::proofs::Compute::compute))]
 pub fn listings()
     ensures tile_listing { listing bench_map 0 0 0 ≡ Ok (listed_bench ∷ []) }
     ensures text { tile_text 0 0 0 (record { water = false; records = listed_bench ∷ [] })
@@ -73,7 +74,7 @@ pub fn listings()
 {}
 
 /// A closed water way covers the tile in its middle, and not the tile that its northern side meets. The rows of its sides are premises, since the table is too large to be computed here.
-#[tactic(auto, using(crate::proofs::WaterRows::water_rows))]
+#[tactic(auto, unfolding(crate::proofs::Compute::compute))]
 pub fn water_tile()
     ensures middle { row 5 (pos 16000000) ≡ 14 → row 5 (negsuc 4999999) ≡ 16 → corner 5 17 15 ≡ at_place (pos 11178401) (pos 11250000)
         → water (lake_tile 17 15) (lake ∷ []) ≡ true }
