@@ -5,7 +5,7 @@ use Rattle.mf_base.specs.Steps.{◌>>=◌, told_as}
 use Rattle.map_model.specs.HeaderReading.{Header, read_header}
 use Rattle.map_model.specs.TileReading.{TileKind, read_tile_from, read_tile}
 use Rattle.map_model.specs.Listing.{ShowFault, Band, IndexEntry, band_of, index_entry_at, tile_end, show_tile, show, listing}
-use Rattle.map_model.specs.Samples.{world_corner, world_tile, settings_to, degree_box, bench_tags, bench_map, listed_bench}
+use Rattle.map_model.specs.Samples.{world_corner, world_tile, settings_to, degree_box, bench_tags, bench_map, empty_map, listed_bench, tile_refused}
 use Rattle.map_model.proofs.World.{corner-world, tile_rect-zero}
 use Rattle.map_model.proofs.Compute.{compute}
 
@@ -34,14 +34,42 @@ tile_listing = ap (λ s. s >>= λ one. Ok one.records) (shown bench_map 0 0 refl
 
 pub no_such_tile : show bench_map 0 1 0 ≡ Err ShowFault.no_tile
 unfolding compute
-no_such_tile = shown bench_map 1 0 refl ∙ refl
+no_such_tile = shown bench_map 1 0 refl
 
-pub bad_index : show (set bench_map 114 0x04) 0 0 0 ≡ Err (ShowFault.index 110)
+pub before_index_end : show (set bench_map 114 0x04) 0 0 0 ≡ Err (ShowFault.index 110)
 unfolding compute
-bad_index = shown (set bench_map 114 0x04) 0 0 refl ∙ refl
+before_index_end = shown (set bench_map 114 0x04) 0 0 refl
 
-pub bad_way_offset : show (set bench_map 131 0x0D) 0 0 0 ≡ Err (ShowFault.tile (record { at = 16; kind = TileKind.offset }))
+pub past_sub_file : show (set bench_map 114 0x23) 0 0 0 ≡ Err (ShowFault.index 110)
 unfolding compute
-bad_way_offset = shown (set bench_map 131 0x0D) 0 0 refl ∙ tile_shown (set bench_map 131 0x0D) (record { water = false; offset = 5 }) refl ∙ refl
+past_sub_file = shown (set bench_map 114 0x23) 0 0 refl
 
-pub ruleset listing_rows = (tile_listing, no_such_tile, bad_index, bad_way_offset)
+pub wrong_offset : show (set bench_map 114 0x06) 0 0 0 ≡ Err (ShowFault.tile (tile_refused 16 TileKind.offset))
+unfolding compute
+wrong_offset = shown (set bench_map 114 0x06) 0 0 refl ∙ tile_shown (set bench_map 114 0x06) (record { water = false; offset = 6 }) refl
+
+pub bad_way_offset : show (set bench_map 131 0x0D) 0 0 0 ≡ Err (ShowFault.tile (tile_refused 16 TileKind.offset))
+unfolding compute
+bad_way_offset = shown (set bench_map 131 0x0D) 0 0 refl ∙ tile_shown (set bench_map 131 0x0D) (record { water = false; offset = 5 }) refl
+
+-- ---- the map without features
+
+abbrev empty_header : Header
+empty_header = record bench_header { subs = record { start = 110; size = 5 } ∷ [] }
+
+abbrev empty_band : Band
+empty_band = record bench_band { sub = record { start = 110; size = 5 } }
+
+empty_band-is : band_of empty_header 0 ≡ Ok empty_band
+unfolding band_of
+empty_band-is = rw (tile_rect-zero degree_box) refl
+
+empty_shown : read_header 115 empty_map ≡ Ok empty_header → show empty_map 0 0 0 ≡ show_tile empty_map empty_header empty_band 0 0 0
+unfolding show
+empty_shown head = rw (head, empty_band-is) refl
+
+pub empty_listing : listing empty_map 0 0 0 ≡ Ok []
+unfolding compute
+empty_listing = ap (λ s. s >>= λ one. Ok one.records) (empty_shown refl)
+
+pub ruleset listing_rows = (tile_listing, no_such_tile, before_index_end, past_sub_file, wrong_offset, bad_way_offset, empty_listing)

@@ -1,6 +1,7 @@
 -- At zoom 0 there is one tile, and every rectangle meets it: whole maps of one tile rest on this.
 use Rattle.std.proofs.Common.{◌≡◌, ℕ, ap, map, List, [], ◌∷◌, ◌+◌, length, refl, arith, true, false, Some, None}
-use Rattle.std.specs.Prelude.{Bool, ℤ, nat_le, nat_lt, ◌&&◌, filter, cond, max as greater, option_map, sum_by, count_by}
+use Rattle.std.specs.Prelude.{Bool, ℤ, nat_le, nat_lt, ◌&&◌, filter, cond, max as greater, option_map, count_by}
+use Rattle.mf_base.specs.declared.place.Place.{Place}
 use Rattle.mf_base.specs.declared.place.Rect.{Rect}
 use Rattle.mf_base.specs.declared.tile.TilePlace.{TilePlace}
 use Rattle.osm_model.specs.Entities.{Entity, nodes_of, ways_of, relations_of}
@@ -10,9 +11,9 @@ use Rattle.feature_model.specs.Weights.{LimitFault, largest_candidate}
 use Rattle.map_model.specs.Mercator.{raw_lat, column, corner}
 use Rattle.map_model.specs.Tiles.{tile_rect, meets, tiles_of, interval_tiles, in_tile, in_order, members, rect_of, zooms, weight_of_tile}
 use Rattle.map_model.specs.Layout.{levels_bytes}
-use Rattle.map_model.specs.TileBytes.{tile_bytes, written_level, written_levels}
+use Rattle.map_model.specs.TileBytes.{tile_corner, tile_bytes, written_level, written_levels}
 use Rattle.map_model.specs.SubFile.{content_of, contents, water}
-use Rattle.map_model.specs.MapFile.{all_contents, all_tiles, map_file, tile_weight, tile_limit, report, shown_tiles, water_tiles, largest, largest_tile}
+use Rattle.map_model.specs.MapFile.{all_contents, all_tiles, map_file, tile_limit, shape_size, job_size, report, shown_tiles, water_tiles, largest, largest_tile}
 use Rattle.map_model.specs.Samples.{world_corner, world_tile, settings_to}
 use Rattle.map_model.proofs.MercatorLemmas.{row-zero}
 use Rattle.map_model.proofs.Compute.{latitudes}
@@ -57,10 +58,15 @@ pub world_contents : (max : ℕ) (box : Rect) (features : List Feature) → all_
 unfolding all_contents contents
 world_contents max box features = rw (world_tiles box max, world_members max features) refl
 
+-- the bytes of a tile whose corner is known
+pub bytes_from : (tile : TilePlace) (c : Place) (f : Feature) (fs : List Feature) → tile_corner tile ≡ c
+    → tile_bytes tile (f ∷ fs) ≡ levels_bytes c (map (written_level c tile (f ∷ fs)) (zooms tile.interval))
+unfolding tile_bytes written_levels
+bytes_from tile c f fs at = ap (λ c. levels_bytes c (map (written_level c tile (f ∷ fs)) (zooms tile.interval))) at
+
 pub world_bytes : (max : ℕ) (f : Feature) (fs : List Feature)
     → tile_bytes (world_tile max) (f ∷ fs) ≡ levels_bytes world_corner (map (written_level world_corner (world_tile max) (f ∷ fs)) (zooms (world_tile max).interval))
-unfolding tile_bytes written_levels
-world_bytes max f fs = ap (λ c. levels_bytes c (map (written_level c (world_tile max) (f ∷ fs)) (zooms (world_tile max).interval))) corner-world
+world_bytes max f fs = bytes_from (world_tile max) world_corner f fs corner-world
 
 -- ---- limits and report
 
@@ -74,9 +80,10 @@ world_limit limit max box features = rw (world_all_tiles max box, world_members 
     found true = ap (λ ms. Some (LimitFault.tile 0 0 0 (weight_of_tile ms))) (world_members max features)
     found false = refl
 
-pub world_sum : (max : ℕ) (box : Rect) (features : List Feature)
-    → length (all_tiles (settings_to max) box) + sum_by (tile_weight features) (all_tiles (settings_to max) box) ≡ 1 + (0 + weight_of_tile (world_shown max features))
-world_sum max box features = rw (world_all_tiles max box, world_members max features) refl
+pub world_size : (max : ℕ) (mapping : Mapping) (box : Rect) (entities : List Entity)
+    → job_size (settings_to max) mapping box entities ≡ shape_size mapping entities + 1 + (0 + weight_of_tile (world_shown max (features mapping entities)))
+unfolding job_size
+world_size max mapping box entities = rw (world_all_tiles max box, world_members max (features mapping entities)) refl
 
 pub world_report : (max : ℕ) (mapping : Mapping) (box : Rect) (entities : List Entity) → report (settings_to max) mapping box entities ≡ record {
   nodes = length (nodes_of entities);

@@ -1,15 +1,22 @@
 -- Features of the worked rows.
-use Rattle.std.specs.Prelude.{ℕ, ℤ, pos, negsuc, List, [], ◌∷◌, ◌++◌, None, true, false, codes, replicate}
+use Rattle.std.specs.Prelude.{ℕ, map, Bool, Some, ℤ, pos, negsuc, List, [], ◌∷◌, ◌++◌, None, true, false, codes, replicate}
 use Rattle.mf_base.specs.declared.kind.EntityKind.TheVariants.{Node, Way}
 use Rattle.mf_base.specs.declared.place.Place.{Place}
 use Rattle.mf_base.specs.declared.place.Rect.{Rect}
 use Rattle.mf_base.specs.declared.tile.TilePlace.{TilePlace}
+use Rattle.mf_base.specs.declared.tile.Interval.{Interval}
+use Rattle.osm_model.specs.Entities.{Entity}
 use Rattle.feature_model.specs.Inside.{Ring}
-use Rattle.feature_model.specs.Mapping.{KeptValue}
-use Rattle.feature_model.specs.Features.{Shape, Feature}
+use Rattle.feature_model.specs.Mapping.{KeptValue, Mapping}
+use Rattle.feature_model.specs.Features.{Shape, Feature, Block}
+use Rattle.feature_model.specs.Samples.{at, tag, node_at, entry, poi_mapping}
 use Rattle.map_model.specs.Header.{HeadSettings}
+use Rattle.map_model.specs.SubFile.{TileContent}
 use Rattle.map_model.specs.MapFile.{Report}
-use Rattle.map_model.specs.Listed.{TagLists, ShownTag, Listed, poi}
+use Rattle.map_model.specs.TileReading.{TileKind, TileFault}
+use Rattle.map_model.specs.HeaderReading.{HeaderKind, HeaderFault}
+use Rattle.map_model.specs.Listing.{Band}
+use Rattle.map_model.specs.Listed.{TagLists, ShownTag, Listed, ListedWay, poi}
 
 abbrev pub at_place : ℤ → ℤ → Place
 at_place lat lon = record { lat = lat; lon = lon }
@@ -17,6 +24,10 @@ at_place lat lon = record { lat = lat; lon = lon }
 -- the corner of the one tile of base zoom 0
 abbrev pub world_corner : Place
 world_corner = at_place (pos 85051128) (negsuc 179999999)
+
+-- the place (0, 0) less that corner, as it is spelled
+abbrev pub to_origin : List ℕ
+to_origin = 0xF8 ∷ 0x8D ∷ 0xC7 ∷ 0x68 ∷ 0x80 ∷ 0xAA ∷ 0xEA ∷ 0xD5 ∷ 0x00 ∷ []
 
 -- one bench at (0, 0): the tag of entry 0
 abbrev pub bench : Feature
@@ -147,3 +158,71 @@ lake = record (way_of (at_place (negsuc 4999999) (pos 5000000) ∷ at_place (pos
 
 abbrev pub lake_tile : ℕ → ℕ → TilePlace
 lake_tile x y = record { index = 0; interval = record { base = 5; min = 0; max = 7 }; x = x; y = y }
+
+-- the places of the lake without its last
+abbrev pub open_lake : Feature
+open_lake = record (way_of (at_place (negsuc 4999999) (pos 5000000) ∷ at_place (pos 16000000) (pos 5000000) ∷ at_place (pos 16000000) (pos 28000000) ∷ at_place (negsuc 4999999) (pos 28000000) ∷ [])) { water = true }
+
+-- a ring of three places, and a smaller one within
+abbrev pub outer_ring : Ring
+outer_ring = at_place (pos 0) (pos 0) ∷ at_place (pos 0) (pos 20) ∷ at_place (pos 20) (pos 10) ∷ at_place (pos 0) (pos 0) ∷ []
+
+abbrev pub inner_ring : Ring
+inner_ring = at_place (pos 3) (pos 8) ∷ at_place (pos 3) (pos 12) ∷ at_place (pos 6) (pos 10) ∷ at_place (pos 3) (pos 8) ∷ []
+
+-- a feature of these blocks
+abbrev pub area_of : List Block → Feature
+area_of blocks = record (way_of []) { shape = Shape.blocks blocks }
+
+-- the content of a tile
+abbrev pub content : Bool → List ℕ → TileContent
+content water bytes = record { water = water; bytes = bytes }
+
+-- the default intervals, and the box of the place (0, 0)
+abbrev pub three_intervals : List Interval
+three_intervals = record { base = 5; min = 0; max = 7 } ∷ record { base = 10; min = 8; max = 11 } ∷ record { base = 14; min = 12; max = 21 } ∷ []
+
+abbrev pub origin_box : Rect
+origin_box = record { min_lat = pos 0; min_lon = pos 0; max_lat = pos 0; max_lon = pos 0 }
+
+-- a number below 256, of eight bytes
+abbrev pub eight : ℕ → List ℕ
+eight n = replicate 7 0 ++ n ∷ []
+
+-- a header of these intervals with the tag of the bench, by its size after the size field, the size of its file, its flags and optional fields, and the starts of its sub-files
+abbrev pub origin_header : ℕ → ℕ → List ℕ → ℕ → ℕ → ℕ → List ℕ
+origin_header size total options first second third =
+    codes "mapsforge binary OSM" ++ 0 ∷ 0 ∷ 0 ∷ size ∷ 0 ∷ 0 ∷ 0 ∷ 5 ∷ eight total
+    ++ 0x00 ∷ 0x00 ∷ 0x01 ∷ 0x8B ∷ 0xCF ∷ 0xE5 ∷ 0x68 ∷ 0x00 ∷ replicate 16 0
+    ++ 0x01 ∷ 0x00 ∷ 0x08 ∷ codes "Mercator" ++ options
+    ++ 0x00 ∷ 0x01 ∷ 0x0D ∷ codes "amenity=bench" ++ 0x00 ∷ 0x00
+    ∷ 0x03 ∷ 5 ∷ 0 ∷ 7 ∷ eight first ++ eight 5 ++ 10 ∷ 8 ∷ 11 ∷ eight second ++ eight 5 ++ 14 ∷ 12 ∷ 21 ∷ eight third ++ eight 31
+
+-- a tile in the middle of the world, of the third of these intervals; its corner is (0, 0)
+abbrev pub middle_tile : TilePlace
+middle_tile = record { index = 2; interval = record { base = 14; min = 12; max = 21 }; x = 8192; y = 8192 }
+
+-- an interval of two tiles side by side, whose sub-file is the whole of a file of 13 bytes
+abbrev pub two_tiles : Band
+two_tiles = record { interval = record { base = 1; min = 1; max = 7 }; sub = record { start = 0; size = 13 }; span = record { z = 1; first_x = 0; last_x = 1; first_y = 0; last_y = 0 } }
+
+abbrev pub two_tiles_file : List ℕ
+two_tiles_file = 0x00 ∷ 0x00 ∷ 0x00 ∷ 0x00 ∷ 0x0C ∷ 0x00 ∷ 0x00 ∷ 0x00 ∷ 0x00 ∷ 0x0B ∷ 0x01 ∷ 0x02 ∷ 0x03 ∷ []
+
+-- a fault of a header, and of a tile
+abbrev pub header_refused : ℕ → HeaderKind → HeaderFault
+header_refused at kind = record { at = at; kind = kind }
+
+abbrev pub tile_refused : ℕ → TileKind → TileFault
+tile_refused at kind = record { at = at; kind = kind }
+
+-- the garden as a reader sees it, under these bits
+abbrev pub listed_garden : ℕ → ListedWay
+listed_garden bits = record { zoom = 17; layer = pos 0; bits = bits; tags = ShownTag.plain (codes "leisure=garden") ∷ []; name = None; house = None; reference = None; label = Some (at_place (pos 5) (pos 10)); blocks = (garden_ring ∷ []) ∷ [] }
+
+-- five benches at one place, and one of zoom 9
+abbrev pub five_benches : List Entity
+five_benches = map (λ id. node_at id (at 0 0) (tag (codes "amenity") (codes "bench"))) (1 ∷ 2 ∷ 3 ∷ 4 ∷ 5 ∷ [])
+
+abbrev pub late_benches : Mapping
+late_benches = poi_mapping (entry (codes "amenity") (codes "bench") 9 ∷ [])
