@@ -1,17 +1,20 @@
 //! Laws of the definitions.
 
-ghost use Rattle.std.specs.Prelude.{◌≡◌, ◌==◌, flat_map, count_by, filter, ℕ, ℤ, Bool, ◌≤◌, ◌<◌, ◌*◌, ◌^◌, ◌≤ℤ◌, int_le, false, List, ◌∷◌, ◌++◌, length, map, Ok};
+ghost use Rattle.std.specs.Prelude.{◌≡◌, ◌↔◌, IsTrue, not, slice_get, Some, None, ◌==◌, flat_map, count_by, filter, ℕ, ℤ, Bool, ◌≤◌, ◌<◌, ◌*◌, ◌^◌, ◌≤ℤ◌, int_le, false, List, ◌∷◌, ◌++◌, length, map, Ok};
 ghost use Rattle.std.specs.List.{AllByRecursion};
 ghost use Rattle.byteorder.specs.Endian.{big_number};
 ghost use Rattle.mf_base.specs.declared.place.Rect.{Rect};
 ghost use Rattle.mf_base.specs.declared.tile.TilePlace.{TilePlace};
 ghost use Rattle.mf_base.specs.Spelling.{vbe_unsigned};
+ghost use Rattle.mf_base.specs.declared.tile.TileRect.{TileRect};
+ghost use Rattle.mf_base.specs.Texts.{has_byte};
+ghost use Rattle.feature_model.specs.Mapping.{Entry};
 ghost use Rattle.feature_model.specs.Features.{Feature};
 ghost use Rattle.map_model.specs.Mercator.{edge_lat, fine_row, IsFineRow};
-ghost use Rattle.map_model.specs.Tiles.{in_order, members, is_poi, is_way, effective_zoom, zooms, sub_tile_bits};
+ghost use Rattle.map_model.specs.Tiles.{has_tile, common, tiles_of, tile_count, entry_place, in_order, members, is_poi, is_way, effective_zoom, zooms, sub_tile_bits};
 ghost use Rattle.map_model.specs.Layout.{sized};
 ghost use Rattle.map_model.specs.TileBytes.{tile_corner, tile_bytes, written_levels, poi_bytes, way_bytes};
-ghost use Rattle.map_model.specs.Listed.{TagLists, Listed, shown_levels, listed};
+ghost use Rattle.map_model.specs.Listed.{entry_text, tag_key, tag_value, TagLists, Listed, shown_levels, listed};
 ghost use Rattle.map_model.specs.TileReading.{IsLevel, ReadsTile, read_tile};
 ghost use Rattle.map_model.specs.SubFile.{TileContent, entry_bytes, index_bytes, sub_file_of, sub_file_size};
 ghost use Rattle.map_model.specs.Header.{HeadSettings, SubFile, header_size, header_bytes};
@@ -35,6 +38,23 @@ pub fn tile_tells_its_members()
     ensures shown { (tags : TagLists) (tile : TilePlace) (fs : List Feature) → fs ≡ in_order tile.interval fs
         → shown_levels tags tile.interval (written_levels tile fs) ≡ map (listed tags tile) fs }
     ensures in_order { (features : List Feature) (tile : TilePlace) → members features tile ≡ in_order tile.interval (members features tile) }
+{}
+
+/// The tiles of a rectangle stand at their places in its list, and a tile is common to two rectangles exactly where it is in both.
+#[tactic(auto, using(crate::proofs::TileLaws::tile_laws))]
+pub fn tiles_in_order()
+    ensures count { (t : TileRect) → length (tiles_of t) ≡ tile_count t }
+    ensures place { (t : TileRect) (x y : ℕ) → IsTrue (has_tile t x y) → slice_get (tiles_of t) (entry_place t x y) ≡ Some (x, y) }
+    ensures common { (a b t : TileRect) → common a b ≡ Some t → (x y : ℕ) → IsTrue (has_tile t x y) ↔ (IsTrue (has_tile a x y) × IsTrue (has_tile b x y)) }
+    ensures some { (a b t : TileRect) → common a b ≡ Some t → IsTrue (has_tile t t.first_x t.first_y) }
+    ensures none { (a b : TileRect) → common a b ≡ None → (x y : ℕ) → IsTrue (has_tile a x y) → IsTrue (has_tile b x y) → ⊥ }
+{}
+
+/// An entry's key and value are read again from its text in the header.
+#[tactic(auto, using(crate::proofs::TileLaws::entry_laws))]
+pub fn entry_is_read_again()
+    ensures key { (e : Entry) → IsTrue (not (has_byte 61 e.key)) → tag_key (entry_text e) ≡ e.key }
+    ensures value { (e : Entry) → IsTrue (not (has_byte 61 e.key)) → tag_value (entry_text e) ≡ e.value }
 {}
 
 /// The sizes that offsets and starts are counted with are those of the bytes, and an entry of the index is read again.
