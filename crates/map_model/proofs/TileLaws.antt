@@ -1,15 +1,15 @@
 -- The tiles of a rectangle by their places, the tiles of two rectangles, and the texts of entries.
-use Rattle.std.proofs.Common.{◌≡◌, ◌⊎◌, ℕ, zero, suc, ◌+◌, ◌-◌, ◌*◌, ◌<◌, ◌≤◌, List, [], ◌∷◌, ◌++◌, map, length, refl, sym, ap, ◌∙◌, arith, inl, inr, true, false, Some, None, take, drop, length-append}
-use Rattle.std.specs.Prelude.{Bool, not, ◌&&◌, ◌||◌, ◌==◌, nat_le, max, min, cond, IsTrue, flat_map, slice_get, leb, unwrap_or, ◌↔◌}
-use Rattle.std.specs.List.{range_with_len, position_or_len, before_first, after_first}
+use Rattle.std.proofs.Common.{◌≡◌, ◌⊎◌, ℕ, zero, suc, ◌+◌, ◌-◌, ◌*◌, ◌<◌, ◌≤◌, List, [], ◌∷◌, ◌++◌, map, length, refl, sym, ap, ◌∙◌, arith, inl, inr, true, false, Some, None, length-append}
+use Rattle.std.specs.Prelude.{Bool, not, ◌&&◌, ◌||◌, ◌==◌, max, min, cond, IsTrue, flat_map, slice_get, leb, unwrap_or, ◌↔◌}
+use Rattle.std.specs.List.{range_with_len, position_or_len}
 use Rattle.std.proofs.lemmas.Bool.{le-leb, leb-true, ne_eqb, eqb-false}
-use Rattle.std.proofs.lemmas.List.{length-map, take_at, drop_at}
+use Rattle.std.proofs.lemmas.List.{length-map, take_at}
 use Rattle.std.proofs.Math.Seq.{drop-append-add}
 use Rattle.std.proofs.lemmas.List.FromFn.{length-range_with_len}
 use Rattle.mf_base.specs.declared.tile.TileRect.{TileRect}
 use Rattle.mf_base.specs.Texts.{Text, has_byte}
 use Rattle.feature_model.specs.Mapping.{Entry}
-use Rattle.map_model.specs.Tiles.{has_tile, common, from_to, tiles_of, entry_place, tile_count}
+use Rattle.map_model.specs.Tiles.{has_tile, common, tiles_of, entry_place, tile_count}
 use Rattle.map_model.specs.Listed.{entry_text, tag_key, tag_value}
 
 -- ---- lists

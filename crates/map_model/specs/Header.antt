@@ -1,4 +1,4 @@
--- The header of a map: Mapsforge map format 5, on the file header.
+-- The header of a map: Mapsforge Specification, Binary Map File Format, version 5, on the file header. Fixed-width numbers are big-endian, and places are in microdegrees.
 use Rattle.std.specs.Prelude.{ℕ, ◌<◌, ◌≤◌, ◌^◌, IfSome, IsTrue, map, sum, take, ◌+◌, ◌*◌, ℤ, List, [], ◌∷◌, ◌++◌, zip, flat_map, length, sum_by, Option, is_some, codes}
 use Rattle.std.specs.Int.{w32, cast_unsigned}
 use Rattle.std.specs.List.{enumerate_from}
@@ -11,7 +11,7 @@ use Rattle.map_model.specs.Tiles.{are_intervals}
 use Rattle.map_model.specs.Layout.{optional, flag}
 use Rattle.map_model.specs.Listed.{TagLists}
 
--- what the words of the command line say of the header; the date is in milliseconds since 1970
+-- What the words of the command line say of the header. The date of creation is in milliseconds since 1970.
 pub record HeadSettings : Type 0 where
   pub date : ℕ
   pub start : Option Place
@@ -21,7 +21,7 @@ pub record HeadSettings : Type 0 where
   pub created_by : Option (List ℕ)
   pub intervals : List Interval
 
--- What the words of the command line can say of the header.
+-- What the words can say: a start position on the earth, a start zoom level of at most 21, texts of at most 255 bytes, and intervals that follow each other.
 pub record IsHeadSettings (set : HeadSettings) : Type 0 where
   pub date : set.date < 2 ^ 63
   pub start : IfSome set.start (λ p. IsTrue (is_on_earth p))
@@ -36,9 +36,11 @@ pub record SubFile : Type 0 where
   pub start : ℕ
   pub size : ℕ
 
+-- the magic bytes that a map begins with
 abbrev pub magic_word : List ℕ
 magic_word = codes "mapsforge binary OSM"
 
+-- the name of the projection
 abbrev pub mercator_word : List ℕ
 mercator_word = codes "Mercator"
 
@@ -46,9 +48,11 @@ mercator_word = codes "Mercator"
 abbrev pub be_signed : ℤ → List ℕ
 be_signed z = big_endian 4 (cast_unsigned w32 z)
 
+-- the bounding box: least latitude, least longitude, greatest latitude, greatest longitude, four bytes each
 abbrev pub box_bytes : Rect → List ℕ
 box_bytes box = be_signed box.min_lat ++ be_signed box.min_lon ++ be_signed box.max_lat ++ be_signed box.max_lon
 
+-- the flags of the optional fields that are there: start position, start zoom level, language, comment, created by
 abbrev pub head_flags : HeadSettings → ℕ
 head_flags set = flag (is_some set.start) 0x40 + flag (is_some set.start_zoom) 0x20 + flag (is_some set.language) 0x10 + flag (is_some set.comment) 0x08 + flag (is_some set.created_by) 0x04
 
@@ -66,7 +70,7 @@ pub record HeaderFields : Type 0 where
   pub subs : List SubFile
   pub after : List ℕ
 
--- the fields from the tile size to the number of intervals
+-- the fields from the tile size to the number of intervals; start position of four bytes each, start zoom level of one
 unfoldable pub middle_bytes : ℕ → ℕ → HeadSettings → TagLists → List ℕ
 middle_bytes tile_size other set names =
     big_endian 2 tile_size ++ string mercator_word ++ (head_flags set + other)
@@ -76,6 +80,7 @@ middle_bytes tile_size other set names =
     ++ tag_list_bytes names.poi ++ tag_list_bytes names.way
     ++ big_endian 1 (length set.intervals)
 
+-- a zoom interval: base, least and greatest zoom level of one byte each, then start and size of its sub-file of eight bytes each
 abbrev pub interval_bytes : Interval × SubFile → List ℕ
 interval_bytes at = big_endian 1 at.0.base ++ big_endian 1 at.0.min ++ big_endian 1 at.0.max ++ big_endian 8 at.1.start ++ big_endian 8 at.1.size
 
@@ -87,7 +92,7 @@ fields_bytes total h =
     ++ flat_map interval_bytes (zip h.settings.intervals h.subs)
     ++ h.after
 
--- the header size counts the bytes after its own field
+-- the whole header; the header size counts the bytes after its own field
 unfoldable pub header_fields_bytes : ℕ → HeaderFields → List ℕ
 header_fields_bytes total h = magic_word ++ big_endian 4 (length (fields_bytes total h)) ++ fields_bytes total h
 

@@ -1,4 +1,4 @@
--- The bytes of a POI, a way and a tile: Mapsforge map format 5, on tile header, POIs and ways; variable values are this project's profile.
+-- The bytes of a POI, a way and a tile: Mapsforge Specification, Binary Map File Format, version 5, on tile header, POIs and ways; variable values are this project's profile. Places are in microdegrees.
 use Rattle.std.specs.Prelude.{ℕ, map, zip, ◌+◌, ◌*◌, if◌then◌else◌, Bool, ℤ, pos, ◌+ℤ◌, ◌-ℤ◌, List, [], ◌∷◌, ◌++◌, flat_map, length, Option, Some, None, is_some}
 use Rattle.std.specs.Int.{w8, w16, w32, cast_unsigned}
 use Rattle.mf_base.specs.Spelling.{vbe_unsigned, vbe_signed, string, big_endian}
@@ -41,22 +41,24 @@ pub record Level : Type 0 where
 
 -- ---- parts of both
 
+-- a field that stands only where it is there
 abbrev pub optional : {X : Type 0} → (X → List ℕ) → Option X → List ℕ
 optional bytes None = []
 optional bytes (Some x) = bytes x
 
--- the length of a part, then the part
+-- the length of a part in bytes, then the part
 unfoldable pub sized : List ℕ → List ℕ
 sized part = vbe_unsigned (length part) ++ part
 
+-- a bit, where it is set
 abbrev pub flag : Bool → ℕ → ℕ
 flag set bit = if set then bit else 0
 
--- the high half is layer + 5, the low half the number of tags
+-- one byte: layer + 5 in the high half, the number of tags in the low half
 abbrev pub layer_byte : ℤ → ℕ → ℕ
 layer_byte layer tags = 16 * above_zero (layer +ℤ pos 5) + tags
 
--- a variable value
+-- a variable value: a number of one, two or four bytes in two's complement, the highest first, or a string; a plain tag has none
 abbrev pub value_bytes : KeptValue → List ℕ
 value_bytes KeptValue.plain = []
 value_bytes (KeptValue.byte n) = big_endian 1 (cast_unsigned w8 n)
@@ -72,15 +74,17 @@ tag_bytes layer tags = layer_byte layer (length tags) ∷ flat_map (λ k. vbe_un
 abbrev pub step : Place → Place → Place
 step a b = record { lat = b.lat -ℤ a.lat; lon = b.lon -ℤ a.lon }
 
--- two signed numbers, latitude before longitude
+-- two signed VBE numbers, latitude before longitude
 abbrev pub step_bytes : Place → List ℕ
 step_bytes s = vbe_signed s.lat ++ vbe_signed s.lon
 
 -- ---- POI
 
+-- the flags of a POI: 0x80 name, 0x40 house number, 0x20 elevation
 abbrev pub poi_flags : PoiFields → ℕ
 poi_flags p = flag (is_some p.name) 0x80 + flag (is_some p.house) 0x40 + flag (is_some p.height) 0x20 + p.other
 
+-- a POI: its place less the corner, layer and tags, the flags, then the fields that are there
 unfoldable pub poi_fields_bytes : Place → PoiFields → List ℕ
 poi_fields_bytes corner p =
     step_bytes (step corner p.place) ++ tag_bytes p.layer p.tags ++ poi_flags p ∷ optional string p.name ++ optional string p.house ++ optional vbe_signed p.height
@@ -100,9 +104,11 @@ doubled (first ∷ steps) = first ∷ steps_from origin steps
 unfoldable pub ring_steps : Place → Bool → Ring → Ring
 ring_steps corner double ring = if double then doubled (steps_from corner ring) else steps_from corner ring
 
+-- the places of a ring under single or double delta
 unfoldable pub coordinate_bytes : Place → Bool → Ring → List ℕ
 coordinate_bytes corner double ring = flat_map step_bytes (ring_steps corner double ring)
 
+-- a ring: the number of its places, then the places
 unfoldable pub ring_bytes : Place → Bool → Ring → List ℕ
 ring_bytes corner double ring = vbe_unsigned (length ring) ++ coordinate_bytes corner double ring
 
@@ -110,6 +116,7 @@ ring_bytes corner double ring = vbe_unsigned (length ring) ++ coordinate_bytes c
 unfoldable pub block_bytes : Place → Bool → Block → List ℕ
 block_bytes corner double rings = vbe_unsigned (length rings) ++ flat_map (ring_bytes corner double) rings
 
+-- the flags of a way: 0x80 name, 0x40 house number, 0x20 reference, 0x10 label, 0x08 number of data blocks, 0x04 double delta
 abbrev pub way_flags : WayFields → ℕ
 way_flags w = flag (is_some w.name) 0x80 + flag (is_some w.house) 0x40 + flag (is_some w.reference) 0x20 + flag (is_some w.label) 0x10 + flag w.counted 0x08 + flag w.double 0x04 + w.other
 
@@ -117,7 +124,7 @@ way_flags w = flag (is_some w.name) 0x80 + flag (is_some w.house) 0x40 + flag (i
 abbrev pub first_of_blocks : List Block → Place
 first_of_blocks blocks = first_place (flat_map (λ rings. flat_map (λ ring. ring) rings) blocks)
 
--- the fields after the data size; the label is its place less the first place of the first ring
+-- The fields after the data size: the sub-tile bitmap, layer and tags, the flags, the fields that are there, the data blocks. The label is its place less the first place of the first ring.
 unfoldable pub way_body_bytes : Place → WayFields → List ℕ
 way_body_bytes corner w =
     big_endian 2 w.bits ++ tag_bytes w.layer w.tags ++ way_flags w ∷ optional string w.name ++ optional string w.house ++ optional string w.reference
@@ -125,16 +132,17 @@ way_body_bytes corner w =
     ++ (if w.counted then vbe_unsigned (length w.blocks) else [])
     ++ flat_map (block_bytes corner w.double) w.blocks
 
+-- a way: its data size in bytes, then the fields
 unfoldable pub way_fields_bytes : Place → WayFields → List ℕ
 way_fields_bytes corner w = sized (way_body_bytes corner w)
 
 -- ---- tile
 
--- per zoom level the number of POIs and the number of ways
+-- of a zoom level the number of POIs and the number of ways
 abbrev pub level_count_bytes : Level → List ℕ
 level_count_bytes level = vbe_unsigned (length level.pois) ++ vbe_unsigned (length level.ways)
 
--- the zoom table, the first-way offset, the POIs, the ways
+-- A tile: the zoom table, then the first-way offset, which is the length of the POIs in bytes, then the POIs and the ways, each by zoom level.
 unfoldable pub levels_bytes : Place → List Level → List ℕ
 levels_bytes corner levels =
     flat_map level_count_bytes levels

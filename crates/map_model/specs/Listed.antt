@@ -23,6 +23,7 @@ pub data ShownTag : Type 0 where
   number : List ℕ → ℤ → ShownTag
   text : List ℕ → List ℕ → ShownTag
 
+-- What is seen of a POI: its effective zoom level, and its place in microdegrees.
 pub record ListedPoi : Type 0 where
   pub zoom : ℕ
   pub layer : ℤ
@@ -32,6 +33,7 @@ pub record ListedPoi : Type 0 where
   pub house : Option (List ℕ)
   pub height : Option ℤ
 
+-- What is seen of a way: besides, its bitmap, its label and all places of its data blocks.
 pub record ListedWay : Type 0 where
   pub zoom : ℕ
   pub layer : ℤ
@@ -43,6 +45,7 @@ pub record ListedWay : Type 0 where
   pub label : Option Place
   pub blocks : List Block
 
+-- what is seen of a POI or a way
 pub data Listed : Type 0 where
   poi : ListedPoi → Listed
   way : ListedWay → Listed
@@ -57,10 +60,11 @@ entry_text e = e.key ++ 61 ∷ e.value
 abbrev pub tag_lists : Mapping → TagLists
 tag_lists mapping = record { poi = map entry_text mapping.poi; way = map entry_text mapping.way }
 
--- what stands before the first `=` of a tag's text, and what stands after it
+-- the key of a tag's text: what stands before its first `=`
 abbrev pub tag_key : List ℕ → List ℕ
 tag_key tag = before_first (λ b. b == 61) tag
 
+-- the value of a tag's text: what stands after that, or nothing where there is no `=`
 abbrev pub tag_value : List ℕ → List ℕ
 tag_value tag = after_first (λ b. b == 61) tag
 
@@ -74,6 +78,7 @@ tag_at tags id = slice_index_or tags id []
 
 -- ---- what is shown
 
+-- a tag with what is kept of its value: its text, or its key and the value of the feature
 abbrev pub shown_value : List ℕ → KeptValue → ShownTag
 shown_value tag KeptValue.plain = ShownTag.plain tag
 shown_value tag (KeptValue.byte n) = ShownTag.number (tag_key tag) n
@@ -81,12 +86,15 @@ shown_value tag (KeptValue.short n) = ShownTag.number (tag_key tag) n
 shown_value tag (KeptValue.int n) = ShownTag.number (tag_key tag) n
 shown_value tag (KeptValue.text bytes) = ShownTag.text (tag_key tag) bytes
 
+-- the tags of a feature, by the texts of their ids
 abbrev pub shown_tags : List (List ℕ) → List Kept → List ShownTag
 shown_tags tags kept = map (λ k. shown_value (tag_at tags k.tag) k.value) kept
 
+-- a POI of this zoom level
 abbrev pub shown_poi : List (List ℕ) → ℕ → PoiFields → ListedPoi
 shown_poi tags zoom p = record { zoom = zoom; layer = p.layer; place = p.place; tags = shown_tags tags p.tags; name = p.name; house = p.house; height = p.height }
 
+-- a way of this zoom level
 abbrev pub shown_way : List (List ℕ) → ℕ → WayFields → ListedWay
 shown_way tags zoom w = record { zoom = zoom; layer = w.layer; bits = w.bits; tags = shown_tags tags w.tags; name = w.name; house = w.house; reference = w.reference; label = w.label; blocks = w.blocks }
 

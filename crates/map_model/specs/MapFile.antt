@@ -1,4 +1,4 @@
--- The whole map, its limits and the report: Mapsforge Specification, Binary Map File Format, version 5, "File structure"; limits and report are this project's profile.
+-- The whole map, its limits and the report: Mapsforge Specification, Binary Map File Format, version 5, on the structure of the file; limits and report are this project's profile.
 use Rattle.std.specs.Prelude.{ℕ, ◌+◌, ◌^◌, ◌≤◌, max, nat_lt, nat_le, List, [], ◌∷◌, ◌++◌, map, flat_map, fold, length, sum_by, count_by, find, Option, option_map, codes, decimal}
 use Rattle.std.specs.List.{enumerate_from}
 use Rattle.std.specs.Option.{option_or}

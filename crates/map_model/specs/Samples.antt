@@ -1,4 +1,4 @@
--- Features of the worked rows.
+-- Features, tiles and maps of the worked rows.
 use Rattle.std.specs.Prelude.{ℕ, map, Bool, Some, ℤ, pos, negsuc, List, [], ◌∷◌, ◌++◌, None, true, false, codes, replicate}
 use Rattle.mf_base.specs.declared.kind.EntityKind.TheVariants.{Node, Way}
 use Rattle.mf_base.specs.declared.place.Place.{Place}
@@ -18,6 +18,7 @@ use Rattle.map_model.specs.HeaderReading.{HeaderKind, HeaderFault}
 use Rattle.map_model.specs.Listing.{Band}
 use Rattle.map_model.specs.Listed.{TagLists, ShownTag, Listed, ListedWay, poi}
 
+-- a place of this latitude and longitude, in microdegrees
 abbrev pub at_place : ℤ → ℤ → Place
 at_place lat lon = record { lat = lat; lon = lon }
 
@@ -75,6 +76,7 @@ way_of places = record {
 abbrev pub garden_ring : Ring
 garden_ring = at_place (pos 0) (pos 0) ∷ at_place (pos 0) (pos 20) ∷ at_place (pos 10) (pos 20) ∷ at_place (pos 10) (pos 0) ∷ at_place (pos 0) (pos 0) ∷ []
 
+-- a closed way of five places, with the label mark
 abbrev pub garden : Feature
 garden = record (way_of garden_ring) { label = true }
 
@@ -98,6 +100,7 @@ settings_to max = record {
 abbrev pub degree_box : Rect
 degree_box = record { min_lat = negsuc 999999; min_lon = negsuc 999999; max_lat = pos 1000000; max_lon = pos 1000000 }
 
+-- the tag of the bench in a header
 abbrev pub bench_tags : TagLists
 bench_tags = record { poi = codes "amenity=bench" ∷ []; way = [] }
 
@@ -140,11 +143,13 @@ world_tile max = record { index = 0; interval = record { base = 0; min = 0; max 
 abbrev pub garden_tags : TagLists
 garden_tags = record { poi = []; way = codes "leisure=garden" ∷ [] }
 
+-- the garden as a way of the map
 abbrev pub garden_bytes : List ℕ
 garden_bytes =
     0x1A ∷ 0x02 ∷ 0x20 ∷ 0x51 ∷ 0x00 ∷ 0x10 ∷ 0x05 ∷ 0x0A ∷ 0x01 ∷ 0x05 ∷ 0xF8 ∷ 0x8D ∷ 0xC7 ∷ 0x68 ∷ 0x80 ∷ 0xAA ∷ 0xEA ∷ 0xD5 ∷ 0x00
     ∷ 0x00 ∷ 0x14 ∷ 0x0A ∷ 0x00 ∷ 0x00 ∷ 0x54 ∷ 0x4A ∷ 0x00 ∷ []
 
+-- the tile of the garden
 abbrev pub garden_tile : List ℕ
 garden_tile = replicate 35 0 ++ 0x01 ∷ replicate 8 0 ++ 0x00 ∷ garden_bytes
 
@@ -156,6 +161,7 @@ bench_numbers = record { nodes = 1; ways = 0; relations = 0; features = 1; skipp
 abbrev pub lake : Feature
 lake = record (way_of (at_place (negsuc 4999999) (pos 5000000) ∷ at_place (pos 16000000) (pos 5000000) ∷ at_place (pos 16000000) (pos 28000000) ∷ at_place (negsuc 4999999) (pos 28000000) ∷ at_place (negsuc 4999999) (pos 5000000) ∷ [])) { water = true }
 
+-- a tile of zoom 5
 abbrev pub lake_tile : ℕ → ℕ → TilePlace
 lake_tile x y = record { index = 0; interval = record { base = 5; min = 0; max = 7 }; x = x; y = y }
 
@@ -167,6 +173,7 @@ open_lake = record (way_of (at_place (negsuc 4999999) (pos 5000000) ∷ at_place
 abbrev pub outer_ring : Ring
 outer_ring = at_place (pos 0) (pos 0) ∷ at_place (pos 0) (pos 20) ∷ at_place (pos 20) (pos 10) ∷ at_place (pos 0) (pos 0) ∷ []
 
+-- a ring within that one
 abbrev pub inner_ring : Ring
 inner_ring = at_place (pos 3) (pos 8) ∷ at_place (pos 3) (pos 12) ∷ at_place (pos 6) (pos 10) ∷ at_place (pos 3) (pos 8) ∷ []
 
@@ -182,6 +189,7 @@ content water bytes = record { water = water; bytes = bytes }
 abbrev pub three_intervals : List Interval
 three_intervals = record { base = 5; min = 0; max = 7 } ∷ record { base = 10; min = 8; max = 11 } ∷ record { base = 14; min = 12; max = 21 } ∷ []
 
+-- the box of the place (0, 0)
 abbrev pub origin_box : Rect
 origin_box = record { min_lat = pos 0; min_lon = pos 0; max_lat = pos 0; max_lon = pos 0 }
 
@@ -206,6 +214,7 @@ middle_tile = record { index = 2; interval = record { base = 14; min = 12; max =
 abbrev pub two_tiles : Band
 two_tiles = record { interval = record { base = 1; min = 1; max = 7 }; sub = record { start = 0; size = 13 }; span = record { z = 1; first_x = 0; last_x = 1; first_y = 0; last_y = 0 } }
 
+-- its index, whose second offset is below the first, and three bytes
 abbrev pub two_tiles_file : List ℕ
 two_tiles_file = 0x00 ∷ 0x00 ∷ 0x00 ∷ 0x00 ∷ 0x0C ∷ 0x00 ∷ 0x00 ∷ 0x00 ∷ 0x00 ∷ 0x0B ∷ 0x01 ∷ 0x02 ∷ 0x03 ∷ []
 
@@ -213,6 +222,7 @@ two_tiles_file = 0x00 ∷ 0x00 ∷ 0x00 ∷ 0x00 ∷ 0x0C ∷ 0x00 ∷ 0x00 ∷ 
 abbrev pub header_refused : ℕ → HeaderKind → HeaderFault
 header_refused at kind = record { at = at; kind = kind }
 
+-- a fault of a tile
 abbrev pub tile_refused : ℕ → TileKind → TileFault
 tile_refused at kind = record { at = at; kind = kind }
 
@@ -224,5 +234,6 @@ listed_garden bits = record { zoom = 17; layer = pos 0; bits = bits; tags = Show
 abbrev pub five_benches : List Entity
 five_benches = map (λ id. node_at id (at 0 0) (tag (codes "amenity") (codes "bench"))) (1 ∷ 2 ∷ 3 ∷ 4 ∷ 5 ∷ [])
 
+-- a mapping whose benches are of zoom 9
 abbrev pub late_benches : Mapping
 late_benches = poi_mapping (entry (codes "amenity") (codes "bench") 9 ∷ [])

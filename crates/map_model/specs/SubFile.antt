@@ -1,4 +1,4 @@
--- The tile index and the tiles of a zoom interval: Mapsforge map format 5, on sub-files; the water test is this project's profile.
+-- The tile index and the tiles of a zoom interval: Mapsforge Specification, Binary Map File Format, version 5, on sub-files; the water test is this project's profile.
 use Rattle.std.specs.Prelude.{ℕ, ◌+◌, ◌*◌, ◌^◌, if◌then◌else◌, Bool, not, ◌&&◌, List, [], ◌∷◌, ◌++◌, map, flat_map, length, take, sum_by}
 use Rattle.std.specs.List.{enumerate_from, list_any, list_all}
 use Rattle.mf_base.specs.Spelling.{big_endian}

@@ -1,4 +1,4 @@
--- The bytes of features in a tile: Mapsforge map format 5, on tile header, POIs and ways; the choices are this project's profile.
+-- The bytes of features in a tile: Mapsforge Specification, Binary Map File Format, version 5, on tile header, POIs and ways; the choices are this project's profile.
 use Rattle.std.specs.Prelude.{ℕ, nat_lt, Bool, true, false, List, [], ◌∷◌, map, filter, sum_by, length}
 use Rattle.mf_base.specs.declared.place.Place.{Place}
 use Rattle.mf_base.specs.declared.tile.TilePlace.{TilePlace}
@@ -11,6 +11,7 @@ use Rattle.map_model.specs.Layout.{PoiFields, WayFields, Level, coordinate_bytes
 unfoldable pub poi_fields : Feature → PoiFields
 poi_fields f = record { place = first_place (places_of f); layer = f.layer; tags = f.tags; other = 0; name = f.name; house = f.house; height = f.height }
 
+-- a POI in a tile with this corner
 unfoldable pub poi_bytes : Place → Feature → List ℕ
 poi_bytes corner f = poi_fields_bytes corner (poi_fields f)
 
@@ -38,23 +39,26 @@ way_fields corner bits f = record {
   blocks = blocks_of_shape f.shape;
 }
 
+-- a way with these bits in a tile with this corner
 unfoldable pub way_bytes : Place → ℕ → Feature → List ℕ
 way_bytes corner bits f = way_fields_bytes corner (way_fields corner bits f)
 
+-- the north-western corner of a tile
 abbrev pub tile_corner : TilePlace → Place
 tile_corner tile = corner tile.interval.base tile.x tile.y
 
--- what is written of the members of one effective zoom, and of all
+-- what is written of the members of one effective zoom, in a tile with this corner
 unfoldable pub written_level : Place → TilePlace → List Feature → ℕ → Level
 written_level corner tile members zoom = record {
   pois = map poi_fields (of_zoom tile.interval zoom (filter is_poi members));
   ways = map (λ f. way_fields corner (sub_tile_bits f tile) f) (of_zoom tile.interval zoom (filter is_way members));
 }
 
+-- what is written of the members of a tile, by zoom level from the minimum to the maximum
 unfoldable pub written_levels : TilePlace → List Feature → List Level
 written_levels tile members = map (written_level (tile_corner tile) tile members) (zooms tile.interval)
 
--- The zoom table, the first-way offset, the POIs, the ways. A tile without members takes no bytes.
+-- The bytes of a tile with these members: the layout of what is written. A tile without members takes no bytes.
 unfoldable pub tile_bytes : TilePlace → List Feature → List ℕ
 tile_bytes tile [] = []
 tile_bytes tile (f ∷ members) = levels_bytes (tile_corner tile) (written_levels tile (f ∷ members))

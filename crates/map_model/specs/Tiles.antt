@@ -1,4 +1,4 @@
--- Tiles, and which features are in them: Mapsforge map format 5, on tiles and base zoom levels; this project's profile.
+-- Tiles, and which features are in them: Mapsforge Specification, Binary Map File Format, version 5, on tiles, zoom intervals and the sub-tile bitmap; the rest is this project's profile.
 use Rattle.std.specs.Prelude.{ℕ, suc, ◌/◌, ◌%◌, zip, drop, ◌+◌, ◌-◌, ◌*◌, ◌^◌, max, min, nat_le, ◌==◌, if◌then◌else◌, Bool, true, false, not, ◌&&◌, pos, ◌+ℤ◌, List, [], ◌∷◌, ◌++◌, map, filter, flat_map, fold, sum_by, length, slice_index_or, Option, Some, None}
 use Rattle.std.specs.Int.{int_min, int_max}
 use Rattle.std.specs.List.{range_with_len, list_all}
@@ -20,6 +20,7 @@ abbrev pub blocks_of_shape : Shape → List Block
 blocks_of_shape (Shape.point p) = []
 blocks_of_shape (Shape.blocks found) = found
 
+-- all rings of a feature, block after block
 abbrev pub rings_of : Feature → Block
 rings_of f = flat_map (λ rings. rings) (blocks_of_shape f.shape)
 
@@ -28,12 +29,15 @@ abbrev pub places_of_shape : Shape → Ring
 places_of_shape (Shape.point p) = p ∷ []
 places_of_shape (Shape.blocks found) = flat_map (λ rings. flat_map (λ ring. ring) rings) found
 
+-- all places of a feature
 abbrev pub places_of : Feature → Ring
 places_of f = places_of_shape f.shape
 
+-- the place (0, 0)
 abbrev pub origin : Place
 origin = record { lat = pos 0; lon = pos 0 }
 
+-- the first of some places, or (0, 0)
 abbrev pub first_place : Ring → Place
 first_place [] = origin
 first_place (p ∷ ps) = p
@@ -47,6 +51,7 @@ rect_of_places places = record {
   max_lon = fold (λ a p. int_max a p.lon) (first_place places).lon places;
 }
 
+-- the rectangle of a feature
 abbrev pub rect_of : Feature → Rect
 rect_of f = rect_of_places (places_of f)
 
@@ -54,10 +59,11 @@ rect_of f = rect_of_places (places_of f)
 unfoldable pub tile_rect : Rect → ℕ → TileRect
 tile_rect rect z = record { z = z; first_x = column z rect.min_lon; last_x = column z rect.max_lon; first_y = row z rect.max_lat; last_y = row z rect.min_lat }
 
+-- column x and row y lie in a rectangle of tiles
 abbrev pub has_tile : TileRect → ℕ → ℕ → Bool
 has_tile t x y = nat_le t.first_x x && nat_le x t.last_x && nat_le t.first_y y && nat_le y t.last_y
 
--- the tiles that are in both, if there are some; both are of one zoom
+-- the tiles that are in both of two rectangles of one zoom, or None where no tile is
 unfoldable pub common : TileRect → TileRect → Option TileRect
 common a b =
     let both : TileRect = record { z = a.z; first_x = max a.first_x b.first_x; last_x = min a.last_x b.last_x; first_y = max a.first_y b.first_y; last_y = min a.last_y b.last_y } in
@@ -75,27 +81,27 @@ from_to a b = range_with_len a (suc b - a)
 unfoldable pub tiles_of : TileRect → List (ℕ × ℕ)
 tiles_of t = flat_map (λ y. map (λ x. (x, y)) (from_to t.first_x t.last_x)) (from_to t.first_y t.last_y)
 
--- the place of a tile among them
+-- the place of tile (x, y) among them, from 0
 abbrev pub entry_place : TileRect → ℕ → ℕ → ℕ
 entry_place t x y = (y - t.first_y) * (suc t.last_x - t.first_x) + (x - t.first_x)
 
--- how many tiles a rectangle meets
+-- how many tiles there are
 abbrev pub tile_count : TileRect → ℕ
 tile_count t = (suc t.last_x - t.first_x) * (suc t.last_y - t.first_y)
 
 -- ---- intervals
 
--- the minimum is at most the base and the base at most the maximum, the base at most 16, and the maximum at most 21
+-- the minimum is at most the base, the base at most the maximum and at most 16, and the maximum at most 21
 abbrev pub is_zoom_range : Interval → Bool
 is_zoom_range interval = nat_le interval.min interval.base && nat_le interval.base interval.max && nat_le interval.base 16 && nat_le interval.max 21
 
--- 1 to 8 intervals, of which each minimum is the maximum before plus 1
+-- 1 to 8 intervals, of which each minimum but the first is the maximum before plus 1
 abbrev pub are_intervals : List Interval → Bool
 are_intervals intervals =
     nat_le 1 (length intervals) && nat_le (length intervals) 8 && list_all is_zoom_range intervals
     && list_all (λ at. at.1.min == suc at.0.max) (zip intervals (drop 1 intervals))
 
--- the tile of an interval with this column and row
+-- the tile of this interval, by the interval's place, with this column and row
 abbrev pub tile_place : ℕ → Interval → ℕ × ℕ → TilePlace
 tile_place index interval at = record { index = index; interval = interval; x = at.0; y = at.1 }
 
@@ -111,17 +117,19 @@ is_node Node = true
 is_node Way = false
 is_node Relation = false
 
+-- a feature is a POI
 abbrev pub is_poi : Feature → Bool
 is_poi f = is_node f.kind
 
+-- a feature is a way of the map
 abbrev pub is_way : Feature → Bool
 is_way f = not (is_poi f)
 
--- the effective zoom of a zoom in an interval: the greater of it and the minimum
+-- the effective zoom of a feature's zoom in an interval: the greater of it and the minimum
 abbrev pub effective_zoom : Interval → ℕ → ℕ
 effective_zoom interval zoom = max zoom interval.min
 
--- the effective zoom of a zoom that the interval shows, which it does up to its maximum
+-- the effective zoom, or None where the zoom is above the maximum
 abbrev pub shown_zoom : ℕ → Interval → Option ℕ
 shown_zoom zoom interval = if nat_le zoom interval.max then Some (effective_zoom interval zoom) else None
 
@@ -129,6 +137,7 @@ shown_zoom zoom interval = if nat_le zoom interval.max then Some (effective_zoom
 unfoldable pub in_tile : TilePlace → List Feature → List Feature
 in_tile tile features = filter (λ f. nat_le f.zoom tile.interval.max && meets (rect_of f) tile.interval.base tile.x tile.y) features
 
+-- the zoom levels of an interval
 abbrev pub zooms : Interval → List ℕ
 zooms interval = from_to interval.min interval.max
 
@@ -140,7 +149,7 @@ of_zoom interval zoom features = filter (λ f. effective_zoom interval f.zoom ==
 abbrev pub by_zoom : Interval → List Feature → List Feature
 by_zoom interval features = flat_map (λ zoom. of_zoom interval zoom features) (zooms interval)
 
--- first POIs, then ways, each by effective zoom, then number
+-- first POIs, then ways, each by effective zoom, then in their order, which is that of their numbers
 unfoldable pub in_order : Interval → List Feature → List Feature
 in_order interval features = by_zoom interval (filter is_poi features) ++ by_zoom interval (filter is_way features)
 
@@ -148,6 +157,7 @@ in_order interval features = by_zoom interval (filter is_poi features) ++ by_zoo
 unfoldable pub members : List Feature → TilePlace → List Feature
 members features tile = in_order tile.interval (in_tile tile features)
 
+-- the weights of some features together
 abbrev pub weight_of_tile : List Feature → ℕ
 weight_of_tile members = sum_by (λ f. f.weight) members
 
@@ -161,6 +171,7 @@ rect_bits rect z x y = sum_by (λ n. if meets rect (z + 2) (4 * x + n % 4) (4 * 
 unfoldable pub sub_tile_bits : Feature → TilePlace → ℕ
 sub_tile_bits f tile = if f.coast then 65535 else rect_bits (rect_of f) tile.interval.base tile.x tile.y
 
+-- two places are equal
 abbrev pub same_place : Place → Place → Bool
 same_place a b = int_eq a.lat b.lat && int_eq a.lon b.lon
 
@@ -169,6 +180,7 @@ abbrev pub is_closed : Ring → Bool
 is_closed [] = false
 is_closed (p ∷ ps) = same_place p (slice_index_or (p ∷ ps) (length ps) p)
 
+-- the first of some rings is closed
 abbrev pub first_ring_is_closed : Block → Bool
 first_ring_is_closed [] = false
 first_ring_is_closed (ring ∷ rings) = is_closed ring
@@ -177,6 +189,6 @@ first_ring_is_closed (ring ∷ rings) = is_closed ring
 abbrev pub middle : Rect → Place
 middle rect = record { lat = floor_div (rect.min_lat +ℤ rect.max_lat) 2; lon = floor_div (rect.min_lon +ℤ rect.max_lon) 2 }
 
--- where a feature has its label: it has the label mark, and its first ring is closed
+-- A feature with the label mark whose first ring is closed has its label in the middle of its rectangle.
 unfoldable pub label_place : Feature → Option Place
 label_place f = if f.label && first_ring_is_closed (rings_of f) then Some (middle (rect_of f)) else None

@@ -9,7 +9,7 @@ ghost use Rattle.map_model.specs.Tiles.{origin, rect_of_places, tile_rect, tiles
 ghost use Rattle.map_model.specs.Layout.{coordinate_bytes};
 ghost use Rattle.map_model.specs.TileBytes.{poi_bytes, way_bytes, is_double, tile_bytes};
 ghost use Rattle.map_model.specs.SubFile.{water, index_bytes, sub_file_of, sub_file_size};
-ghost use Rattle.map_model.specs.Header.{head_flags, header_bytes, sub_files};
+ghost use Rattle.map_model.specs.Header.{head_flags, header_size, header_bytes, sub_files};
 ghost use Rattle.map_model.specs.MapFile.{map_file, tile_limit, sub_file_limit, shape_size, job_size, report, report_line};
 ghost use Rattle.map_model.specs.Samples.{at_place, world_corner, world_tile, to_origin, bench, bench_with_value, way_of, area_of, garden, garden_bytes, eastward, outer_ring, inner_ring, lake, open_lake, lake_tile, middle_tile, content, settings_to, three_intervals, origin_box, origin_header, degree_box, bench_tags, bench_map, empty_map, bench_numbers, five_benches, late_benches};
 
@@ -99,6 +99,7 @@ pub fn sub_file_bytes()
 #[tactic(auto, unfolding(crate::proofs::Compute::compute))]
 pub fn headers()
     ensures language { head_flags (record (settings_to 7) { language = Some (codes "en") }) ≡ 0x10 }
+    ensures sizes { map (λ options. header_size (record (settings_to 7) { intervals = three_intervals; language = options }) bench_tags) (None ∷ Some (codes "en") ∷ []) ≡ 148 ∷ 151 ∷ [] }
     ensures three_intervals { header_bytes (record (settings_to 7) { intervals = three_intervals }) origin_box bench_tags (sub_files 148 (5 ∷ 5 ∷ 31 ∷ []))
         ≡ origin_header 0x7C 0xBD (0x00 ∷ []) 0x94 0x99 0x9E }
     ensures optional_fields { header_bytes (record (settings_to 7) { intervals = three_intervals; start = Some (at_place (pos 1) (negsuc 0)); start_zoom = Some 12; language = Some (codes "en"); comment = Some (codes "c"); created_by = Some (codes "d") }) origin_box bench_tags (sub_files 164 (5 ∷ 5 ∷ 31 ∷ []))
