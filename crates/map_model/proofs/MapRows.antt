@@ -1,13 +1,16 @@
 -- Whole maps of one tile.
-use Rattle.std.proofs.Common.{◌≡◌, ◌+◌, [], ◌∷◌, ◌++◌, length, refl, ap, ◌∙◌, drop, false, None, Some}
+use Rattle.std.proofs.Common.{◌≡◌, ◌+◌, [], ◌∷◌, ◌++◌, length, refl, ap, ◌∙◌, map, set, drop, true, false, None, Some}
 use Rattle.std.specs.Prelude.{replicate, codes}
+use Rattle.std.specs.Option.{option_or}
 use Rattle.feature_model.specs.Features.{features}
 use Rattle.feature_model.specs.Weights.{LimitFault}
-use Rattle.feature_model.specs.Samples.{benches, bench_with, forests, forest_of, outer, member_of}
+use Rattle.feature_model.specs.Samples.{benches, bench_with, paths, path, node_at, way_of, at, forests, forest_of, outer, member_of}
 use Rattle.map_model.specs.Tiles.{origin, members}
 use Rattle.map_model.specs.TileBytes.{tile_bytes}
-use Rattle.map_model.specs.MapFile.{all_contents, map_of_contents, map_of, map_file, tile_limit, job_size, report}
-use Rattle.map_model.specs.Samples.{bench, settings_to, degree_box, bench_tags, bench_map, empty_map, bench_numbers, bench_sub_file, world_tile, middle_tile, content, five_benches, late_benches}
+use Rattle.map_model.specs.SubFile.{sub_file_size}
+use Rattle.map_model.specs.Listed.{tag_lists}
+use Rattle.map_model.specs.MapFile.{all_contents, map_of_contents, map_of, map_file, tile_limit, sub_file_limit, sub_file_sizes, limit_fault, job_size, report}
+use Rattle.map_model.specs.Samples.{bench, settings_to, degree_box, bench_tags, bench_map, empty_map, bench_numbers, bench_sub_file, world_tile, middle_tile, garden, garden_tile, content, five_benches, late_benches}
 use Rattle.map_model.proofs.World.{world_contents, world_members, world_bytes, bytes_from, world_limit, world_size, world_report}
 use Rattle.map_model.proofs.LatitudeRows.{corner_third}
 use Rattle.map_model.proofs.Compute.{compute}
@@ -48,7 +51,11 @@ pub third_interval : tile_bytes middle_tile (record bench { zoom = 12 } ∷ []) 
 unfolding compute
 third_interval = bytes_from middle_tile origin (record bench { zoom = 12 }) [] corner_third
 
-pub ruleset map_rows = (one_bench, header_alone, zoom_above_maximum, at_the_maximum, third_interval)
+pub garden_bytes : tile_bytes (world_tile 21) (record garden { coast = true } ∷ []) ≡ set (set garden_tile 46 0xFF) 47 0xFF
+unfolding compute
+garden_bytes = world_bytes 21 (record garden { coast = true }) []
+
+pub ruleset map_rows = (one_bench, header_alone, zoom_above_maximum, at_the_maximum, third_interval, garden_bytes)
 
 -- ---- reports
 
@@ -75,7 +82,15 @@ pub five_report : report (settings_to 7) benches degree_box five_benches ≡ rec
 unfolding compute
 five_report = world_report 7 benches degree_box five_benches ∙ (λ i. record { nodes = 5; ways = 0; relations = 0; features = 5; skipped = 0; tiles = 1; water = 0; bytes = five_bytes i; largest = 55 })
 
-pub ruleset report_rows = (bench_report, empty_report, late_report, five_report)
+skipped_bytes : length (map_file (settings_to 7) paths degree_box (node_at 1 (at 0 0) [] ∷ way_of 1 (1 ∷ 2 ∷ 3 ∷ 4 ∷ []) path ∷ [])) ≡ 114
+unfolding compute
+skipped_bytes = ap (λ all. length (map_of_contents (settings_to 7) (tag_lists paths) degree_box all)) (world_contents 7 degree_box [])
+
+pub skipped_report : report (settings_to 7) paths degree_box (node_at 1 (at 0 0) [] ∷ way_of 1 (1 ∷ 2 ∷ 3 ∷ 4 ∷ []) path ∷ []) ≡ record { nodes = 1; ways = 1; relations = 0; features = 0; skipped = 1; tiles = 0; water = 0; bytes = 114; largest = 12 }
+unfolding compute
+skipped_report = world_report 7 paths degree_box (node_at 1 (at 0 0) [] ∷ way_of 1 (1 ∷ 2 ∷ 3 ∷ 4 ∷ []) path ∷ []) ∙ (λ i. record { nodes = 1; ways = 1; relations = 0; features = 0; skipped = 1; tiles = 0; water = 0; bytes = skipped_bytes i; largest = 12 })
+
+pub ruleset report_rows = (bench_report, empty_report, late_report, five_report, skipped_report)
 
 -- ---- limits
 
@@ -91,4 +106,16 @@ pub forest_and_tile : job_size (settings_to 7) forests degree_box (forest_of 3 3
 unfolding compute
 forest_and_tile = world_size 7 forests degree_box (forest_of 3 3 (outer 1 ∷ outer 2 ∷ outer 3 ∷ member_of 4 (codes "inner") ∷ []))
 
-pub ruleset limit_rows = (at_the_limit, over_the_limit, forest_and_tile)
+pub then_tile : limit_fault 54 (settings_to 7) benches degree_box five_benches ≡ Some (LimitFault.tile 0 0 0 55)
+unfolding compute
+then_tile = ap (λ o. option_or o (sub_file_limit (sub_file_sizes (settings_to 7) degree_box (features benches five_benches)))) (world_limit 54 7 degree_box (features benches five_benches))
+
+pub no_limit : limit_fault 55 (settings_to 7) benches degree_box five_benches ≡ None
+unfolding compute
+no_limit =
+    let shown = features benches five_benches in
+    ap (λ o. option_or o (sub_file_limit (sub_file_sizes (settings_to 7) degree_box shown))) (world_limit 55 7 degree_box shown)
+    ∙ ap (λ all. sub_file_limit (map sub_file_size all)) (world_contents 7 degree_box shown)
+    ∙ (λ i. sub_file_limit (sub_file_size (content false (world_bytes 7 bench (drop 1 shown) i) ∷ []) ∷ []))
+
+pub ruleset limit_rows = (at_the_limit, over_the_limit, forest_and_tile, then_tile, no_limit)

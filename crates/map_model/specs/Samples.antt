@@ -1,5 +1,6 @@
 -- Features, tiles and maps of the worked rows.
 use Rattle.std.specs.Prelude.{ℕ, map, Bool, Some, ℤ, pos, negsuc, List, [], ◌∷◌, ◌++◌, None, true, false, codes, replicate}
+use Rattle.mf_base.specs.declared.kind.EntityKind.{EntityKind}
 use Rattle.mf_base.specs.declared.kind.EntityKind.TheVariants.{Node, Way}
 use Rattle.mf_base.specs.declared.place.Place.{Place}
 use Rattle.mf_base.specs.declared.place.Rect.{Rect}
@@ -135,6 +136,10 @@ empty_map = degree_header (0x73 ∷ []) (0x05 ∷ 0x00 ∷ 0x00 ∷ 0x00 ∷ 0x0
 abbrev pub listed_bench : Listed
 listed_bench = poi (record { zoom = 5; layer = pos 0; place = at_place (pos 0) (pos 0); tags = ShownTag.plain (codes "amenity=bench") ∷ []; name = None; house = None; height = None })
 
+-- a bench of zoom 17 with another tag
+abbrev pub valued_bench : ShownTag → Listed
+valued_bench tag = poi (record { zoom = 17; layer = pos 0; place = at_place (pos 0) (pos 0); tags = tag ∷ []; name = None; house = None; height = None })
+
 -- the one tile of base zoom 0, of an interval up to a zoom
 abbrev pub world_tile : ℕ → TilePlace
 world_tile max = record { index = 0; interval = record { base = 0; min = 0; max = max }; x = 0; y = 0 }
@@ -237,3 +242,15 @@ five_benches = map (λ id. node_at id (at 0 0) (tag (codes "amenity") (codes "be
 -- a mapping whose benches are of zoom 9
 abbrev pub late_benches : Mapping
 late_benches = poi_mapping (entry (codes "amenity") (codes "bench") 9 ∷ [])
+
+-- an interval of this base, minimum and maximum
+abbrev pub zoom_range : ℕ → ℕ → ℕ → Interval
+zoom_range base min max = record { base = base; min = min; max = max }
+
+-- a feature of this kind, id and zoom
+abbrev pub numbered : EntityKind → ℕ → ℕ → Feature
+numbered kind id zoom = record bench { kind = kind; id = id; zoom = zoom }
+
+-- places to and fro, which take fewer bytes under single delta
+abbrev pub zigzag : Ring
+zigzag = at_place (pos 0) (pos 0) ∷ at_place (pos 0) (pos 50) ∷ at_place (pos 0) (pos 0) ∷ at_place (pos 0) (pos 50) ∷ at_place (pos 0) (pos 0) ∷ []

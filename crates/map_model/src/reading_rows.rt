@@ -1,13 +1,13 @@
 //! Worked rows: what a reader sees of small maps, and what it refuses.
 
-ghost use Rattle.std.specs.Prelude.{◌≡◌, ◌++◌, [], ◌∷◌, map, take, drop, set, replicate, Some, None, Ok, Err, false, pos, negsuc, codes};
+ghost use Rattle.std.specs.Prelude.{◌≡◌, true, ◌++◌, [], ◌∷◌, map, take, drop, set, replicate, Some, None, Ok, Err, false, pos, negsuc, codes};
 ghost use Rattle.mf_base.specs.Spelling.{big_endian};
-ghost use Rattle.map_model.specs.Listed.{way};
+ghost use Rattle.map_model.specs.Listed.{ShownTag, way};
 ghost use Rattle.map_model.specs.Header.{magic_word};
 ghost use Rattle.map_model.specs.HeaderReading.{HeaderKind, header_length, header_fault};
 ghost use Rattle.map_model.specs.TileReading.{TileKind, read_tile_from};
 ghost use Rattle.map_model.specs.Listing.{ShowFault, tile_end, show, listing, poi_line, way_line, tile_text, show_fault_text};
-ghost use Rattle.map_model.specs.Samples.{at_place, world_corner, world_tile, to_origin, bench_tags, bench_map, bench_sub_file, empty_map, listed_bench, garden_tags, garden_tile, listed_garden, two_tiles, two_tiles_file, header_refused, tile_refused};
+ghost use Rattle.map_model.specs.Samples.{valued_bench, outer_ring, inner_ring, eastward, at_place, world_corner, world_tile, to_origin, bench_tags, bench_map, bench_sub_file, empty_map, listed_bench, garden_tags, garden_tile, listed_garden, two_tiles, two_tiles_file, header_refused, tile_refused};
 
 /// The first fault of a header, by the place of its field.
 #[tactic(auto, unfolding(crate::proofs::Compute::compute))]
@@ -36,6 +36,8 @@ pub fn benches_read()
     ensures left_over { read_tile_from world_corner bench_tags (world_tile 7).interval (drop 5 bench_sub_file ++ 0x00 ∷ []) ≡ Err (tile_refused 29 TileKind.left) }
     ensures cut_at_layer { read_tile_from world_corner bench_tags (world_tile 7).interval (take 26 (drop 5 bench_sub_file)) ≡ Err (tile_refused 26 TileKind.short) }
     ensures cut_in_longitude { read_tile_from world_corner bench_tags (world_tile 7).interval (take 25 (drop 5 bench_sub_file)) ≡ Err (tile_refused 21 TileKind.vbe) }
+    ensures number { read_tile_from world_corner (record bench_tags { poi = codes "capacity=%h" ∷ [] }) (world_tile 21).interval (replicate 34 0 ++ 0x01 ∷ replicate 9 0 ++ 0x0E ∷ to_origin ++ 0x51 ∷ 0x00 ∷ 0x01 ∷ 0x2C ∷ 0x00 ∷ []) ≡ Ok (valued_bench (ShownTag.number (codes "capacity") (pos 300)) ∷ []) }
+    ensures text { read_tile_from world_corner (record bench_tags { poi = codes "ref=%s" ∷ [] }) (world_tile 21).interval (replicate 34 0 ++ 0x01 ∷ replicate 9 0 ++ 0x0F ∷ to_origin ++ 0x51 ∷ 0x00 ∷ 0x02 ∷ 0x41 ∷ 0x31 ∷ 0x00 ∷ []) ≡ Ok (valued_bench (ShownTag.text (codes "ref") (codes "A1")) ∷ []) }
     ensures empty { read_tile_from world_corner bench_tags (world_tile 7).interval [] ≡ Ok [] }
 {}
 
@@ -76,6 +78,10 @@ pub fn listings()
 pub fn texts()
     ensures tile { tile_text 0 0 0 (record { water = false; records = listed_bench ∷ [] })
         ≡ codes "tile 0 0 0 water 0 pois 1 ways 0" ++ 10 ∷ codes "poi zoom 5 layer 0 at 0,0 tags \"amenity=bench\"" ++ 10 ∷ [] }
+    ensures water_and_way { tile_text 1 2 3 (record { water = true; records = way (listed_garden 0x0220) ∷ [] })
+        ≡ codes "tile 1 2 3 water 1 pois 0 ways 1" ++ 10 ∷ codes "way zoom 17 layer 0 bits 0220 tags \"leisure=garden\" label 5,10 outer 0,0 0,20 10,20 10,0 0,0" ++ 10 ∷ [] }
+    ensures blocks { way_line (record (listed_garden 0xABCD) { tags = ShownTag.number (codes "width") (negsuc 2) ∷ ShownTag.text (codes "a") (codes "b") ∷ []; name = Some (codes "N"); house = Some (codes "7"); reference = Some (codes "A1"); label = None; blocks = (outer_ring ∷ inner_ring ∷ []) ∷ (take 2 eastward ∷ []) ∷ [] })
+        ≡ codes "way zoom 17 layer 0 bits ABCD tags \"width=-3\" \"a=b\" name \"N\" house \"7\" ref \"A1\" outer 0,0 0,20 20,10 0,0 inner 3,8 3,12 6,10 3,8 outer 0,0 0,1000" ++ 10 ∷ [] }
     ensures poi { poi_line (record { zoom = 5; layer = negsuc 0; place = at_place (negsuc 0) (pos 7); tags = []; name = Some (34 ∷ 92 ∷ 10 ∷ 127 ∷ 195 ∷ 164 ∷ []); house = Some (codes "1"); height = Some (negsuc 11) })
         ≡ codes "poi zoom 5 layer -1 at -1,7 tags name \"\\x22\\x5C\\x0A\\x7F" ++ 195 ∷ 164 ∷ codes "\" house \"1\" ele -12" ++ 10 ∷ [] }
     ensures garden { way_line (listed_garden 0x0220) ≡ codes "way zoom 17 layer 0 bits 0220 tags \"leisure=garden\" label 5,10 outer 0,0 0,20 10,20 10,0 0,0" ++ 10 ∷ [] }
