@@ -225,11 +225,11 @@ two_tiles_file = 0x00 ∷ 0x00 ∷ 0x00 ∷ 0x00 ∷ 0x0C ∷ 0x00 ∷ 0x00 ∷ 
 
 -- a fault of a header, and of a tile
 abbrev pub header_refused : ℕ → HeaderKind → HeaderFault
-header_refused at kind = record { at = at; kind = kind }
+header_refused at why = record { at = at; kind = why }
 
 -- a fault of a tile
 abbrev pub tile_refused : ℕ → TileKind → TileFault
-tile_refused at kind = record { at = at; kind = kind }
+tile_refused at why = record { at = at; kind = why }
 
 -- the garden as a reader sees it, under these bits
 abbrev pub listed_garden : ℕ → ListedWay

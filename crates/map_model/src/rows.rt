@@ -6,7 +6,7 @@ ghost use Rattle.feature_model.specs.Mapping.{KeptValue};
 ghost use Rattle.feature_model.specs.Weights.{LimitFault};
 ghost use Rattle.feature_model.specs.Samples.{benches, bench_with, paths, path, node_at, way_of as way_through, at, forests, forest_of, outer, member_of};
 ghost use Rattle.map_model.specs.Mercator.{raw_lat, row, column, edge_lat, corner, corner_lat};
-ghost use Rattle.map_model.specs.Tiles.{are_intervals, shown_zoom, in_order, origin, rect_of_places, tile_rect, tiles_of, entry_place, members, rect_bits, label_place};
+ghost use Rattle.map_model.specs.Tiles.{interval_tiles, are_intervals, shown_zoom, in_order, origin, rect_of_places, tile_rect, tiles_of, entry_place, members, rect_bits, label_place};
 ghost use Rattle.map_model.specs.Layout.{coordinate_bytes};
 ghost use Rattle.map_model.specs.TileBytes.{poi_bytes, way_bytes, is_double, tile_bytes};
 ghost use Rattle.map_model.specs.SubFile.{water, index_bytes, sub_file_of, sub_file_size};
@@ -50,6 +50,8 @@ pub fn rectangles()
     ensures last_column { (tile_rect (record { min_lat = pos 0; min_lon = pos 11250000; max_lat = pos 0; max_lon = pos 12000000 }) 5).last_x ≡ 17 }
     ensures in_order { tiles_of (record { z = 1; first_x = 0; last_x = 1; first_y = 0; last_y = 1 }) ≡ (0, 0) ∷ (1, 0) ∷ (0, 1) ∷ (1, 1) ∷ [] }
     ensures place { entry_place (record { z = 5; first_x = 16; last_x = 18; first_y = 14; last_y = 16 }) 17 15 ≡ 4 }
+    ensures of_the_base { row 5 (pos 20000000) ≡ 14 → row 5 (negsuc 9999999) ≡ 16 → interval_tiles (record { min_lat = negsuc 9999999; min_lon = pos 1000000; max_lat = pos 20000000; max_lon = pos 30000000 }) 0 (zoom_range 5 0 7)
+        ≡ lake_tile 16 14 ∷ lake_tile 17 14 ∷ lake_tile 18 14 ∷ lake_tile 16 15 ∷ lake_tile 17 15 ∷ lake_tile 18 15 ∷ lake_tile 16 16 ∷ lake_tile 17 16 ∷ lake_tile 18 16 ∷ [] }
     ensures label { label_place (record (way_of (at_place (negsuc 2) (pos 0) ∷ at_place (pos 0) (pos 1) ∷ at_place (negsuc 2) (pos 0) ∷ [])) { label = true }) ≡ Some (at_place (negsuc 1) (pos 0)) }
     ensures label_of_all_rings { label_place (record (area_of ((inner_ring ∷ []) ∷ (outer_ring ∷ []) ∷ (eastward ∷ []) ∷ [])) { label = true }) ≡ Some (at_place (pos 10) (pos 1500)) }
     ensures open_ring_first { label_place (record (area_of ((eastward ∷ []) ∷ (outer_ring ∷ []) ∷ [])) { label = true }) ≡ None }
@@ -123,7 +125,8 @@ pub fn sub_file_bytes()
 /// The header of the default intervals, without and with its optional fields.
 #[tactic(auto, unfolding(crate::proofs::Compute::compute))]
 pub fn headers()
-    ensures language { head_flags (record (settings_to 7) { language = Some (codes "en") }) ≡ 0x10 }
+    ensures flags { map head_flags (settings_to 7 ∷ record (settings_to 7) { start = Some origin } ∷ record (settings_to 7) { start_zoom = Some 12 } ∷ record (settings_to 7) { language = Some (codes "en") } ∷ record (settings_to 7) { comment = Some (codes "c") } ∷ record (settings_to 7) { created_by = Some (codes "d") } ∷ [])
+        ≡ 0x00 ∷ 0x40 ∷ 0x20 ∷ 0x10 ∷ 0x08 ∷ 0x04 ∷ [] }
     ensures sizes { map (λ options. header_size (record (settings_to 7) { intervals = three_intervals; language = options }) bench_tags) (None ∷ Some (codes "en") ∷ []) ≡ 148 ∷ 151 ∷ [] }
     ensures three_intervals { header_bytes (record (settings_to 7) { intervals = three_intervals }) origin_box bench_tags (sub_files 148 (5 ∷ 5 ∷ 31 ∷ []))
         ≡ origin_header 0x7C 0xBD (0x00 ∷ []) 0x94 0x99 0x9E }
