@@ -54,11 +54,9 @@ each read (c ∷ cs) bytes = do
   others ← each read cs first.1
   Ok (first.0 ∷ others.0, others.1)
 
-abbrev pub with_some : {Kind X : Type 0} → Read Kind X → Read Kind (Option X)
-with_some (Ok r) = Ok (Some r.0, r.1)
-with_some (Err e) = Err e
-
 -- a field that is there where the flag is set
 abbrev pub where_set : {Kind X : Type 0} → Bool → (List ℕ → Read Kind X) → List ℕ → Read Kind (Option X)
-where_set true read bytes = with_some (read bytes)
+where_set true read bytes = do
+  x ← read bytes
+  Ok (Some x.0, x.1)
 where_set false read bytes = Ok (None, bytes)
