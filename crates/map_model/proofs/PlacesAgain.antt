@@ -151,7 +151,7 @@ double_after (p ∷ ps) before last hb hl h rest =
     ∙ rw (place_from-twice before last p hb hl h.0 (flat_map step_bytes (steps_from (step before p) (steps_from p ps)) ++ rest), double_after ps p (step before p) h.0 (step-step before p hb h.0) h.1 rest) refl
 
 -- what stands after the first place of a ring
-pub after_first : Bool → Place → Ring → List ℕ
+unfoldable pub after_first : Bool → Place → Ring → List ℕ
 after_first true first ps = flat_map step_bytes (steps_from origin (steps_from first ps))
 after_first false first ps = flat_map step_bytes (steps_from first ps)
 
