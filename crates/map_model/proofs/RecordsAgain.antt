@@ -253,7 +253,7 @@ way_flag w few =
     )
 
 -- the number of data blocks, where it is told
-count_bytes : Bool → List Block → List ℕ
+unfoldable pub count_bytes : Bool → List Block → List ℕ
 count_bytes counted blocks = cond counted (vbe_unsigned (length blocks)) []
 
 block_count-again : (counted : Bool) (blocks : List Block) → (counted ≡ false → length blocks ≡ 1) → 1 ≤ length blocks → length blocks < 2 ^ 63 → (rest : List ℕ) → block_count_at counted (count_bytes counted blocks ++ rest) ≡ Ok (length blocks, rest)
@@ -285,7 +285,7 @@ unfolding block_bytes
 first_of_block corner double ring rings rest = simp append_assoc refl
 
 -- the first place is found before anything after it is looked at
-first_place-again : (corner : Place) (counted double : Bool) (blocks : List Block) → IsInRange corner → (counted ≡ false → length blocks ≡ 1) → 1 ≤ length blocks → length blocks < 2 ^ 63 → AllByRecursion IsBlock blocks → (rest : List ℕ)
+pub first_place-again : (corner : Place) (counted double : Bool) (blocks : List Block) → IsInRange corner → (counted ≡ false → length blocks ≡ 1) → 1 ≤ length blocks → length blocks < 2 ^ 63 → AllByRecursion IsBlock blocks → (rest : List ℕ)
     → (after : List ℕ) × (first_place_at corner counted (count_bytes counted blocks ++ (flat_map (block_bytes corner double) blocks ++ rest)) ≡ Ok (first_of_blocks blocks, after))
 unfolding first_place_at Again
 first_place-again corner counted double [] hc single some few h rest = absurd (omega (arith, some))
@@ -313,13 +313,13 @@ first_place-again corner counted double (((p ∷ ps) ∷ rings) ∷ blocks) hc s
           place_from-again corner p hc h.0.2.0.2.0 after,
         ) refl
 
-two_signed-again : (a p : Place) → IsInRange a → IsInRange p → Again two_signed (step_bytes (step a p)) (p.lat -ℤ a.lat, p.lon -ℤ a.lon)
+pub two_signed-again : (a p : Place) → IsInRange a → IsInRange p → Again two_signed (step_bytes (step a p)) (p.lat -ℤ a.lat, p.lon -ℤ a.lon)
 unfolding Again two_signed
 two_signed-again a p ha hp rest =
     ap two_signed (append_assoc (vbe_signed (p.lat -ℤ a.lat)) (vbe_signed (p.lon -ℤ a.lon)) rest)
     ∙ rw (signed-again (p.lat -ℤ a.lat) (nat_abs-step a.lat p.lat ha.0 hp.0) (vbe_signed (p.lon -ℤ a.lon) ++ rest), signed-again (p.lon -ℤ a.lon) (nat_abs-step a.lon p.lon ha.1 hp.1) rest) refl
 
-first_in_range : (blocks : List Block) → 1 ≤ length blocks → AllByRecursion IsBlock blocks → IsInRange (first_of_blocks blocks)
+pub first_in_range : (blocks : List Block) → 1 ≤ length blocks → AllByRecursion IsBlock blocks → IsInRange (first_of_blocks blocks)
 first_in_range [] some h = absurd (omega (arith, some))
 first_in_range ([] ∷ blocks) some h = absurd (let one = h.0.0 in omega (arith, one))
 first_in_range (([] ∷ rings) ∷ blocks) some h = absurd (let two = h.0.2.0.0 in omega (arith, two))

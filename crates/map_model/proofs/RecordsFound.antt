@@ -1,4 +1,4 @@
--- What is read as tags, a POI or a way is spelled so.
+-- What is read as tags or as a POI is spelled so.
 use Rattle.feature_model.specs.Features.{Block}
 use Rattle.feature_model.specs.Inside.{Ring}
 use Rattle.std.proofs.Common.{◌≡◌, ◌⊎◌, ℕ, zero, suc, ◌+◌, ◌-◌, ◌*◌, ◌/◌, ◌%◌, ◌^◌, ◌<◌, ◌≤◌, List, [], ◌∷◌, ◌++◌, map, length, refl, sym, ap, ◌∙◌, subst, arith, inl, inr, true, false, length-append, append_assoc, append-nil}
@@ -152,13 +152,13 @@ tags_at-found tags count bytes r small e =
     (then (subst (λ text. Takes bytes text ids.0.1) all.spelt a.0) b.0, (all.many ∙ a.1.0, all.each))
 
 -- layer, number of tags, ids and values
-record AreTags (tags : List (List ℕ)) (bytes : List ℕ) (layer : ℤ) (kept : List Kept) (rest : List ℕ) : Type 0 where
-  spelt : Takes bytes (tag_bytes layer kept) rest
-  low : IsTrue (lies_within (negsuc 4) (pos 5) layer)
-  few : length kept < 16
-  each : AllByRecursion (IsKeptOf tags) kept
+pub record AreTags (tags : List (List ℕ)) (bytes : List ℕ) (layer : ℤ) (kept : List Kept) (rest : List ℕ) : Type 0 where
+  pub spelt : Takes bytes (tag_bytes layer kept) rest
+  pub low : IsTrue (lies_within (negsuc 4) (pos 5) layer)
+  pub few : length kept < 16
+  pub each : AllByRecursion (IsKeptOf tags) kept
 
-layered : (tags : List (List ℕ)) (bytes : List ℕ) (l : (ℤ × ℕ) × List ℕ) (kept : List Kept × List ℕ) → IsBytes bytes → layer_at bytes ≡ Ok l → tags_at tags l.0.1 l.1 ≡ Ok kept → AreTags tags bytes l.0.0 kept.0 kept.1
+pub layered : (tags : List (List ℕ)) (bytes : List ℕ) (l : (ℤ × ℕ) × List ℕ) (kept : List Kept × List ℕ) → IsBytes bytes → layer_at bytes ≡ Ok l → tags_at tags l.0.1 l.1 ≡ Ok kept → AreTags tags bytes l.0.0 kept.0 kept.1
 unfolding tag_bytes
 layered tags bytes l kept small el ek =
     let a = layer_at-found bytes l small el in
@@ -179,7 +179,7 @@ bit_flag bit zero few = omega arith
 bit_flag bit (suc zero) few = omega arith
 bit_flag bit (suc (suc m)) few = absurd (omega (arith, few))
 
-flag_as : (flags bit : ℕ) (set : Bool) → set ≡ has_flag flags bit → flag set bit ≡ bit * (flags / bit % 2)
+pub flag_as : (flags bit : ℕ) (set : Bool) → set ≡ has_flag flags bit → flag set bit ≡ bit * (flags / bit % 2)
 flag_as flags bit set e = ap (λ b. flag b bit) e ∙ bit_flag bit (flags / bit % 2) (omega arith)
 
 -- ---- POI
