@@ -1,26 +1,25 @@
 -- What is read as a number, a text, a place or a ring is spelled so.
-use Rattle.feature_model.specs.Features.{Block}
-use Rattle.feature_model.specs.Inside.{Ring}
-use Rattle.std.proofs.Common.{◌≡◌, ℕ, zero, suc, ◌+◌, ◌-◌, ◌^◌, ◌<◌, ◌≤◌, List, [], ◌∷◌, ◌++◌, length, take, drop, refl, sym, ap, ◌∙◌, subst, arith, true, false}
-use Rattle.std.specs.Prelude.{Bool, flat_map, cond, ℤ, neg_ℤ, ◌+ℤ◌, ◌-ℤ◌, IsTrue, nat_abs, Ok}
+use Rattle.std.proofs.Common.{◌≡◌, ℕ, zero, suc, ◌+◌, ◌-◌, ◌^◌, ◌<◌, ◌≤◌, List, [], ◌∷◌, length, take, drop, refl, sym, ap, ◌∙◌, subst, arith, true, false}
+use Rattle.std.specs.Prelude.{Bool, flat_map, ℤ, neg_ℤ, ◌+ℤ◌, ◌-ℤ◌, IsTrue, nat_abs}
 use Rattle.std.specs.List.{AllByRecursion}
 use Rattle.std.specs.Str.{is_utf8}
 use Rattle.std.proofs.lemmas.Bool.{leb-true}
 use Rattle.std.proofs.lemmas.List.{length-take-le}
 use Rattle.std.proofs.Math.IntN.{+ℤ_comm, +ℤ_assoc, +ℤ-neg_ℤ_cancel, neg_ℤ-+ℤ}
-use Rattle.mf_base.specs.Spelling.{IsBytes, vbe_unsigned, vbe_signed, string}
+use Rattle.mf_base.specs.Spelling.{vbe_unsigned, vbe_signed, string}
 use Rattle.mf_base.specs.NumberReading.{unsigned_front, signed_front}
 use Rattle.mf_base.specs.declared.place.Place.{Place}
 use Rattle.mf_base.specs.Ranges.{is_signed_32}
 use Rattle.mf_base.proofs.StepLaws.{bind_ok, require_ok, told_ok, ok_is}
 use Rattle.mf_base.proofs.Vbe.{vbe_unsigned-only}
 use Rattle.mf_base.proofs.NumberLemmas.{unsigned_front-found, signed_front-found, vbe_signed-only}
+use Rattle.feature_model.specs.Inside.{Ring}
 use Rattle.map_model.specs.Tiles.{origin}
 use Rattle.map_model.specs.Layout.{step, step_bytes, steps_from, ring_bytes, block_bytes}
 use Rattle.map_model.specs.Reader.{times}
 use Rattle.map_model.specs.TileReading.{number, signed, count_from, text_at, ranged, place_from, moved, places_after, ring_at, block_at, IsText, IsInRange, IsRing, IsBlock}
 use Rattle.map_model.proofs.ReaderFound.{Takes, IsFound, Finds, nothing, taken, then, with_rest_ok, front, times-found}
-use Rattle.map_model.proofs.PlacesAgain.{back, after_first, coordinates-split}
+use Rattle.map_model.proofs.PlacesAgain.{after_first, coordinates-split}
 
 pub number-found : Finds number vbe_unsigned (λ n. n < 2 ^ 63)
 unfolding number

@@ -1,5 +1,5 @@
 -- What a reader finds stands at the front of the bytes.
-use Rattle.std.proofs.Common.{◌≡◌, inl, inr, ◌+◌, ℕ, zero, suc, ◌^◌, ◌<◌, ◌≤◌, List, [], ◌∷◌, ◌++◌, length, take, drop, refl, sym, ap, ◌∙◌, subst, arith, true, false, append_assoc, Result, Ok, Err, Option, Some, None}
+use Rattle.std.proofs.Common.{◌≡◌, inl, inr, ◌+◌, ℕ, zero, suc, ◌^◌, ◌<◌, ◌≤◌, List, [], ◌∷◌, ◌++◌, length, take, drop, refl, sym, ap, ◌∙◌, subst, arith, true, false, append_assoc, Result, Ok, Err, Some, None}
 use Rattle.std.specs.Prelude.{Bool, nat_lt, flat_map, IfSome, is_some}
 use Rattle.std.specs.List.{AllByRecursion, AllZip}
 use Rattle.std.proofs.lemmas.Bool.{ltb-false}

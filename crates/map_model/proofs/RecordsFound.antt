@@ -1,10 +1,8 @@
 -- What is read as tags or as a POI is spelled so.
-use Rattle.feature_model.specs.Features.{Block}
-use Rattle.feature_model.specs.Inside.{Ring}
-use Rattle.std.proofs.Common.{◌≡◌, ◌⊎◌, ℕ, zero, suc, ◌+◌, ◌-◌, ◌*◌, ◌/◌, ◌%◌, ◌^◌, ◌<◌, ◌≤◌, List, [], ◌∷◌, ◌++◌, map, length, refl, sym, ap, ◌∙◌, subst, arith, inl, inr, true, false, length-append, append_assoc, append-nil}
-use Rattle.std.specs.Prelude.{Bool, flat_map, zip, cond, ◌==◌, ℤ, pos, negsuc, ◌+ℤ◌, ◌-ℤ◌, Ok, Some, None, Option, IsTrue, nat_lt, is_some, IfSome}
+use Rattle.std.proofs.Common.{◌≡◌, ℕ, zero, suc, ◌+◌, ◌-◌, ◌*◌, ◌/◌, ◌%◌, ◌^◌, ◌<◌, ◌≤◌, List, [], ◌∷◌, ◌++◌, length, refl, sym, ap, ◌∙◌, subst, arith, inl, inr, true}
+use Rattle.std.specs.Prelude.{Bool, flat_map, ◌==◌, ℤ, pos, negsuc, ◌+ℤ◌, ◌-ℤ◌, Ok, IsTrue, is_some}
 use Rattle.std.specs.List.{AllByRecursion, AllZip}
-use Rattle.std.specs.Int.{w8, w16, w32, cast_signed, byte_at}
+use Rattle.std.specs.Int.{w8, w16, w32, cast_signed}
 use Rattle.std.proofs.lemmas.Bool.{cases_lt, lt-ltb, le-ltb, le-leb, leb-true, ltb-true}
 use Rattle.std.proofs.lemmas.Int.{of_z-to_z}
 use Rattle.std.proofs.Math.IntN.{+ℤ_idr, -ℤ-+ℤ_cancel}
@@ -15,7 +13,7 @@ use Rattle.mf_base.specs.Ranges.{lies_within}
 use Rattle.mf_base.proofs.StepLaws.{bind_ok, require_ok, ok_is}
 use Rattle.feature_model.specs.Mapping.{KeptValue, ValueKind}
 use Rattle.feature_model.specs.Choice.{Kept}
-use Rattle.map_model.specs.Layout.{PoiFields, WayFields, optional, flag, layer_byte, value_bytes, tag_bytes, step, step_bytes, poi_flags, poi_fields_bytes}
+use Rattle.map_model.specs.Layout.{PoiFields, flag, layer_byte, value_bytes, tag_bytes, poi_flags, poi_fields_bytes}
 use Rattle.map_model.specs.Listed.{tag_kind, tag_at}
 use Rattle.map_model.specs.Reader.{fixed_number, times, each, where_set}
 use Rattle.map_model.specs.TileReading.{TileKind, text_at, ranged, layer_at, id_at, value_at, kept_at, tags_at, has_flag, poi_at, IsText, IsOfKind, IsKeptOf, IsPoi}

@@ -1,15 +1,15 @@
 -- What is read as a way is spelled so.
-use Rattle.feature_model.specs.Features.{Block}
-use Rattle.std.proofs.Common.{◌≡◌, ℕ, zero, suc, ◌+◌, ◌-◌, ◌*◌, ◌/◌, ◌%◌, ◌^◌, ◌<◌, ◌≤◌, List, [], ◌∷◌, ◌++◌, map, length, refl, sym, ap, ◌∙◌, subst, arith, true, false, length-append, append_assoc, append-nil}
-use Rattle.std.specs.Prelude.{Bool, ⊤, flat_map, cond, ◌==◌, ℤ, Ok, Some, None, Option, is_some, IfSome}
+use Rattle.std.proofs.Common.{◌≡◌, ℕ, ◌+◌, ◌-◌, ◌%◌, ◌^◌, ◌<◌, ◌≤◌, List, [], ◌∷◌, ◌++◌, length, refl, sym, ap, ◌∙◌, subst, arith, true, false, length-append, append_assoc}
+use Rattle.std.specs.Prelude.{Bool, ⊤, flat_map, cond, ℤ, Ok, Some, None, Option, is_some, IfSome}
 use Rattle.std.specs.List.{AllByRecursion}
 use Rattle.std.proofs.lemmas.Bool.{eqb-true}
-use Rattle.mf_base.specs.Spelling.{IsBytes, vbe_unsigned, vbe_signed, string, big_endian}
+use Rattle.mf_base.specs.Spelling.{IsBytes, vbe_unsigned, vbe_signed, string}
 use Rattle.mf_base.specs.declared.place.Place.{Place}
 use Rattle.mf_base.proofs.StepLaws.{bind_ok, require_ok, ok_is}
+use Rattle.feature_model.specs.Features.{Block}
 use Rattle.feature_model.specs.Choice.{Kept}
-use Rattle.map_model.specs.Layout.{WayFields, optional, flag, step, step_bytes, first_of_blocks, block_bytes, way_flags, way_body_bytes, way_fields_bytes, sized}
-use Rattle.map_model.specs.Reader.{Read, fixed_number, where_set}
+use Rattle.map_model.specs.Layout.{WayFields, optional, step, step_bytes, first_of_blocks, block_bytes, way_flags, way_body_bytes, way_fields_bytes, sized}
+use Rattle.map_model.specs.Reader.{fixed_number, where_set}
 use Rattle.map_model.specs.TileReading.{TileKind, layer_at, tags_at, signed, text_at, place_from, has_flag, block_at, block_count_at, blocks_at, first_place_at, two_signed, label_and_blocks_at, way_body_at, way_at, IsText, IsInRange, IsBlock, IsWay}
 use Rattle.map_model.proofs.ReaderFound.{Takes, IsFound, Finds, nothing, then, fixed_number-found, times-found, where_set-found}
 use Rattle.map_model.proofs.PlacesFound.{number-found, signed-found, count_from-found, text_at-found, place_from-found, block_at-found}
