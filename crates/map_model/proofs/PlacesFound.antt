@@ -1,5 +1,5 @@
 -- What is read as a number, a text, a place or a ring is spelled so.
-use Rattle.std.proofs.Common.{◌≡◌, ℕ, zero, suc, ◌+◌, ◌-◌, ◌^◌, ◌<◌, ◌≤◌, List, [], ◌∷◌, length, take, drop, refl, sym, ap, ◌∙◌, subst, arith, true, false}
+use Rattle.std.proofs.Common.{◌≡◌, ℕ, zero, suc, ◌-◌, ◌^◌, ◌<◌, ◌≤◌, List, [], ◌∷◌, length, take, drop, refl, sym, ap, ◌∙◌, subst, arith, true, false}
 use Rattle.std.specs.Prelude.{Bool, flat_map, ℤ, neg_ℤ, ◌+ℤ◌, ◌-ℤ◌, IsTrue, nat_abs}
 use Rattle.std.specs.List.{AllByRecursion}
 use Rattle.std.specs.Str.{is_utf8}
@@ -16,7 +16,6 @@ use Rattle.mf_base.proofs.NumberLemmas.{unsigned_front-found, signed_front-found
 use Rattle.feature_model.specs.Inside.{Ring}
 use Rattle.map_model.specs.Tiles.{origin}
 use Rattle.map_model.specs.Layout.{step, step_bytes, steps_from, ring_bytes, block_bytes}
-use Rattle.map_model.specs.Reader.{times}
 use Rattle.map_model.specs.TileReading.{number, signed, count_from, text_at, ranged, place_from, moved, places_after, ring_at, block_at, IsText, IsInRange, IsRing, IsBlock}
 use Rattle.map_model.proofs.ReaderFound.{Takes, IsFound, Finds, nothing, taken, then, with_rest_ok, front, times-found}
 use Rattle.map_model.proofs.PlacesAgain.{after_first, coordinates-split}

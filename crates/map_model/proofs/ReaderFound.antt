@@ -10,7 +10,7 @@ use Rattle.mf_base.specs.Spelling.{IsBytes, big_endian}
 use Rattle.mf_base.proofs.BigBytes.{big_bytes-big_number}
 use Rattle.mf_base.proofs.StepLaws.{err_is_no_ok, bind_ok, chosen, ok_is}
 use Rattle.map_model.specs.Layout.{optional}
-use Rattle.map_model.specs.Reader.{Read, stop, with_rest, fixed, fixed_number, times, each, where_set}
+use Rattle.map_model.specs.Reader.{Stop, placed, Read, stop, with_rest, fixed, fixed_number, times, each, where_set}
 
 -- the bytes are this text, and then the rest, which is bytes too
 pub record Takes (bytes text rest : List ℕ) : Type 0 where
@@ -43,6 +43,10 @@ then {bytes} {a} {middle} {b} {rest} x y = record { spelt = x.spelt ∙ ap (λ c
 pub with_rest_ok : {E X : Type 0} (bytes : List ℕ) (f : Result (X × ℕ) E) (r : X × List ℕ) → with_rest bytes f ≡ Ok r → (size : ℕ) × (f ≡ Ok (r.0, size)) × (drop size bytes ≡ r.1)
 with_rest_ok bytes (Ok found) r e = let is = ok_is (found.0, drop found.1 bytes) r e in (found.1, ap (λ q. Ok (q.0, found.1)) is, ap (λ q. q.1) is)
 with_rest_ok bytes (Err f) r e = absurd (err_is_no_ok f r e)
+
+pub placed_ok : {Kind X : Type 0} (total : ℕ) (r : Result X (Stop Kind)) (x : X) → placed total r ≡ Ok x → r ≡ Ok x
+placed_ok total (Ok y) x e = cc
+placed_ok total (Err f) x e = absurd (err_is_no_ok _ x e)
 
 -- the front of so many bytes is this text
 pub front : (size : ℕ) (bytes text rest : List ℕ) → IsBytes bytes → take size bytes ≡ text → drop size bytes ≡ rest → Takes bytes text rest

@@ -1,6 +1,6 @@
 -- What is read as tags or as a POI is spelled so.
-use Rattle.std.proofs.Common.{◌≡◌, ℕ, zero, suc, ◌+◌, ◌-◌, ◌*◌, ◌/◌, ◌%◌, ◌^◌, ◌<◌, ◌≤◌, List, [], ◌∷◌, ◌++◌, length, refl, sym, ap, ◌∙◌, subst, arith, inl, inr, true}
-use Rattle.std.specs.Prelude.{Bool, flat_map, ◌==◌, ℤ, pos, negsuc, ◌+ℤ◌, ◌-ℤ◌, Ok, IsTrue, is_some}
+use Rattle.std.proofs.Common.{◌≡◌, ℕ, zero, suc, ◌-◌, ◌*◌, ◌/◌, ◌%◌, ◌^◌, ◌<◌, ◌≤◌, List, [], ◌∷◌, ◌++◌, length, refl, sym, ap, ◌∙◌, subst, arith, inl, inr, true}
+use Rattle.std.specs.Prelude.{Bool, flat_map, ◌==◌, ℤ, pos, negsuc, ◌-ℤ◌, Ok, IsTrue, is_some}
 use Rattle.std.specs.List.{AllByRecursion, AllZip}
 use Rattle.std.specs.Int.{w8, w16, w32, cast_signed}
 use Rattle.std.proofs.lemmas.Bool.{cases_lt, lt-ltb, le-ltb, le-leb, leb-true, ltb-true}
@@ -15,7 +15,7 @@ use Rattle.feature_model.specs.Mapping.{KeptValue, ValueKind}
 use Rattle.feature_model.specs.Choice.{Kept}
 use Rattle.map_model.specs.Layout.{PoiFields, flag, layer_byte, value_bytes, tag_bytes, poi_flags, poi_fields_bytes}
 use Rattle.map_model.specs.Listed.{tag_kind, tag_at}
-use Rattle.map_model.specs.Reader.{fixed_number, times, each, where_set}
+use Rattle.map_model.specs.Reader.{fixed_number}
 use Rattle.map_model.specs.TileReading.{TileKind, text_at, ranged, layer_at, id_at, value_at, kept_at, tags_at, has_flag, poi_at, IsText, IsOfKind, IsKeptOf, IsPoi}
 use Rattle.map_model.proofs.ReaderFound.{Takes, IsFound, Finds, nothing, then, fixed_number-found, times-found, each-found, where_set-found}
 use Rattle.map_model.proofs.PlacesFound.{IsSigned32, number-found, text_at-found, ranged-found, place_from-found}

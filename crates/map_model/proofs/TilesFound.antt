@@ -1,5 +1,5 @@
 -- What is read as a tile is spelled so.
-use Rattle.std.proofs.Common.{◌≡◌, ℕ, suc, ◌+◌, ◌^◌, ◌<◌, List, [], ◌∷◌, ◌++◌, map, length, refl, sym, ap, ◌∙◌, subst, arith, true, length-append, append-nil, Result, Ok, Err}
+use Rattle.std.proofs.Common.{◌≡◌, ℕ, suc, ◌+◌, ◌^◌, ◌<◌, List, [], ◌∷◌, ◌++◌, map, length, refl, sym, ap, ◌∙◌, subst, arith, length-append, append-nil, Ok}
 use Rattle.std.specs.Prelude.{flat_map, zip}
 use Rattle.std.specs.List.{AllByRecursion, AllZip}
 use Rattle.std.proofs.lemmas.Bool.{eqb-true}
@@ -7,14 +7,14 @@ use Rattle.mf_base.specs.Spelling.{IsBytes, vbe_unsigned}
 use Rattle.mf_base.specs.declared.place.Place.{Place}
 use Rattle.mf_base.specs.declared.tile.Interval.{Interval}
 use Rattle.mf_base.specs.declared.tile.TilePlace.{TilePlace}
-use Rattle.mf_base.proofs.StepLaws.{err_is_no_ok, bind_ok, require_ok, ok_is}
+use Rattle.mf_base.proofs.StepLaws.{bind_ok, require_ok, ok_is}
 use Rattle.map_model.specs.Tiles.{zooms}
 use Rattle.map_model.specs.TileBytes.{tile_corner}
 use Rattle.map_model.specs.Layout.{PoiFields, WayFields, Level, poi_fields_bytes, way_fields_bytes, sized, level_count_bytes, levels_bytes}
 use Rattle.map_model.specs.Listed.{TagLists, Listed, shown_levels}
-use Rattle.map_model.specs.Reader.{Stop, times, each}
-use Rattle.map_model.specs.TileReading.{TileKind, number, poi_at, way_at, counts_at, level_of, levels_at, placed, shown_at, read_tile_from, read_tile, IsInRange, IsPoi, IsWay, IsLevel, SpellsLevels, ReadsTile}
-use Rattle.map_model.proofs.ReaderFound.{Takes, IsFound, Finds, then, times-found, each-found}
+use Rattle.map_model.specs.Reader.{times, each}
+use Rattle.map_model.specs.TileReading.{number, poi_at, way_at, counts_at, level_of, levels_at, shown_at, read_tile_from, read_tile, IsInRange, IsPoi, IsWay, IsLevel, SpellsLevels, ReadsTile}
+use Rattle.map_model.proofs.ReaderFound.{placed_ok, Takes, IsFound, Finds, then, times-found, each-found}
 use Rattle.map_model.proofs.PlacesFound.{number-found}
 use Rattle.map_model.proofs.RecordsFound.{poi_at-found}
 use Rattle.map_model.proofs.WaysFound.{way_at-found}
@@ -149,10 +149,6 @@ spells_from names interval corner bytes levels hc small few x =
 pub levels_at-found : (names : TagLists) (interval : Interval) (corner : Place) (bytes : List ℕ) (levels : List Level) → IsInRange corner → IsBytes bytes → length bytes < 2 ^ 63
     → levels_at names interval corner bytes ≡ Ok levels → SpellsLevels names interval corner bytes levels
 levels_at-found names interval corner bytes levels hc small few e = spells_from names interval corner bytes levels hc small few (tile_parts names interval corner bytes levels e)
-
-placed_ok : {X : Type 0} (total : ℕ) (r : Result X (Stop TileKind)) (x : X) → placed total r ≡ Ok x → r ≡ Ok x
-placed_ok total (Ok y) x e = cc
-placed_ok total (Err f) x e = absurd (err_is_no_ok _ x e)
 
 -- what is read as a tile is spelled so
 read_tile-found : (names : TagLists) (tile : TilePlace) (bytes : List ℕ) (shown : List Listed) → IsInRange (tile_corner tile) → IsBytes bytes → length bytes < 2 ^ 63 → read_tile names tile bytes ≡ Ok shown → ReadsTile names tile bytes shown

@@ -1,5 +1,5 @@
 -- What is read as a way is spelled so.
-use Rattle.std.proofs.Common.{◌≡◌, ℕ, ◌+◌, ◌-◌, ◌%◌, ◌^◌, ◌<◌, ◌≤◌, List, [], ◌∷◌, ◌++◌, length, refl, sym, ap, ◌∙◌, subst, arith, true, false, length-append, append_assoc}
+use Rattle.std.proofs.Common.{◌≡◌, ℕ, ◌+◌, ◌%◌, ◌^◌, ◌<◌, ◌≤◌, List, [], ◌∷◌, ◌++◌, length, refl, sym, ap, ◌∙◌, subst, arith, true, false, length-append, append_assoc}
 use Rattle.std.specs.Prelude.{Bool, ⊤, flat_map, cond, ℤ, Ok, Some, None, Option, is_some, IfSome}
 use Rattle.std.specs.List.{AllByRecursion}
 use Rattle.std.proofs.lemmas.Bool.{eqb-true}
@@ -10,7 +10,7 @@ use Rattle.feature_model.specs.Features.{Block}
 use Rattle.feature_model.specs.Choice.{Kept}
 use Rattle.map_model.specs.Layout.{WayFields, optional, step, step_bytes, first_of_blocks, block_bytes, way_flags, way_body_bytes, way_fields_bytes, sized}
 use Rattle.map_model.specs.Reader.{fixed_number, where_set}
-use Rattle.map_model.specs.TileReading.{TileKind, layer_at, tags_at, signed, text_at, place_from, has_flag, block_at, block_count_at, blocks_at, first_place_at, two_signed, label_and_blocks_at, way_body_at, way_at, IsText, IsInRange, IsBlock, IsWay}
+use Rattle.map_model.specs.TileReading.{TileKind, layer_at, tags_at, text_at, place_from, has_flag, block_at, block_count_at, blocks_at, first_place_at, two_signed, label_and_blocks_at, way_body_at, way_at, IsText, IsInRange, IsBlock, IsWay}
 use Rattle.map_model.proofs.ReaderFound.{Takes, IsFound, Finds, nothing, then, fixed_number-found, times-found, where_set-found}
 use Rattle.map_model.proofs.PlacesFound.{number-found, signed-found, count_from-found, text_at-found, place_from-found, block_at-found}
 use Rattle.map_model.proofs.RecordsFound.{byte-found, layered, flag_as}

@@ -1,5 +1,5 @@
 -- Reading from left to right: a value and the bytes after it, or the first fault. This project's profile.
-use Rattle.std.specs.Prelude.{ℕ, zero, suc, List, [], ◌∷◌, length, take, drop, nat_lt, Bool, true, false, Result, Ok, Err, Option, Some, None, if◌then◌else◌}
+use Rattle.std.specs.Prelude.{ℕ, zero, suc, ◌-◌, List, [], ◌∷◌, length, take, drop, nat_lt, Bool, true, false, Result, Ok, Err, Option, Some, None, if◌then◌else◌}
 use Rattle.mf_base.specs.Steps.{◌>>=◌, require, told_as}
 use Rattle.byteorder.specs.Endian.{big_number}
 
@@ -7,6 +7,16 @@ use Rattle.byteorder.specs.Endian.{big_number}
 pub record Stop (Kind : Type 0) : Type 0 where
   pub kind : Kind
   pub left : ℕ
+
+-- a field that has no spelling, by its place in the whole
+pub record FaultAt (Kind : Type 0) : Type 0 where
+  pub at : ℕ
+  pub kind : Kind
+
+-- a reading of so many bytes, its fault by the place where the field starts
+abbrev pub placed : {Kind X : Type 0} → ℕ → Result X (Stop Kind) → Result X (FaultAt Kind)
+placed total (Ok x) = Ok x
+placed total (Err e) = Err (record { at = total - e.left; kind = e.kind })
 
 -- what a reader answers
 abbrev pub Read : Type 0 → Type 0 → Type 0

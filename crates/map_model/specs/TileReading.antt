@@ -1,7 +1,7 @@
 -- Reading a tile, with its first fault: Mapsforge map format 5, on tile header, POIs and ways; the faults are this project's profile.
 use Rattle.feature_model.specs.Features.{Block}
 use Rattle.feature_model.specs.Inside.{Ring}
-use Rattle.std.specs.Prelude.{◌≡◌, ℕ, zero, suc, ◌+◌, ◌-◌, ◌/◌, ◌%◌, ◌^◌, ◌<◌, ◌≤◌, nat_lt, nat_le, ◌==◌, if◌then◌else◌, Bool, true, false, IsTrue, ℤ, pos, negsuc, ◌+ℤ◌, ◌-ℤ◌, List, [], ◌∷◌, map, zip, length, take, drop, Option, IfSome, Result, Ok, Err, ⊤}
+use Rattle.std.specs.Prelude.{◌≡◌, ℕ, zero, suc, ◌+◌, ◌-◌, ◌/◌, ◌%◌, ◌^◌, ◌<◌, ◌≤◌, nat_lt, nat_le, ◌==◌, if◌then◌else◌, Bool, true, false, IsTrue, ℤ, pos, negsuc, ◌+ℤ◌, ◌-ℤ◌, List, [], ◌∷◌, map, zip, length, take, drop, Option, IfSome, Result, Ok, ⊤}
 use Rattle.std.specs.List.{AllByRecursion}
 use Rattle.std.specs.Str.{is_utf8}
 use Rattle.std.specs.Int.{w8, w16, w32, cast_signed}
@@ -18,7 +18,7 @@ use Rattle.map_model.specs.Layout.{PoiFields, WayFields, Level, step, levels_byt
 use Rattle.map_model.specs.TileBytes.{tile_corner}
 use Rattle.map_model.specs.Listed.{TagLists, Listed, tag_kind, tag_at, shown_levels}
 use Rattle.feature_model.specs.Mapping.{ValueKind}
-use Rattle.map_model.specs.Reader.{Stop, Read, want, or_stop, with_rest, fixed_number, times, each, where_set}
+use Rattle.map_model.specs.Reader.{Stop, FaultAt, placed, Read, want, or_stop, with_rest, fixed_number, times, each, where_set}
 use Rattle.mf_base.specs.Steps.{◌>>=◌}
 
 -- why a field of a tile has no spelling
@@ -34,9 +34,8 @@ pub data TileKind : Type 0 where
   left : TileKind
 
 -- the first field without a spelling, by its place in the tile
-pub record TileFault : Type 0 where
-  pub at : ℕ
-  pub kind : TileKind
+abbrev pub TileFault : Type 0
+TileFault = FaultAt TileKind
 
 -- ---- numbers, texts, places
 
@@ -255,10 +254,6 @@ levels_at tags interval corner bytes = do
   ways ← each (λ c. times c.1 (way_at tags.way corner)) counts.0 pois.1
   nothing ← want (length ways.1 == 0) TileKind.left ways.1
   Ok (map level_of (zip pois.0 ways.0))
-
-abbrev pub placed : {X : Type 0} → ℕ → Result X (Stop TileKind) → Result X TileFault
-placed total (Ok x) = Ok x
-placed total (Err e) = Err (record { at = total - e.left; kind = e.kind })
 
 -- empty bytes are a tile without members
 abbrev pub shown_at : TagLists → Interval → Place → List ℕ → Result (List Listed) (Stop TileKind)
