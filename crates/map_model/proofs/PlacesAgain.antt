@@ -18,7 +18,7 @@ use Rattle.map_model.specs.Reader.{Read, times}
 use Rattle.map_model.specs.TileReading.{TileKind, number, signed, count_from, text_at, ranged, place_from, moved, places_after, ring_at, block_at, IsText, IsInRange, IsRing, IsBlock}
 
 -- a reader reads x from these bytes, whatever follows them
-unfoldable pub Again : {X : Type 0} → (List ℕ → Read TileKind X) → List ℕ → X → Type 0
+unfoldable pub Again : {Kind X : Type 0} → (List ℕ → Read Kind X) → List ℕ → X → Type 0
 Again read bytes x = (rest : List ℕ) → read (bytes ++ rest) ≡ Ok (x, rest)
 
 pub number-again : (n : ℕ) → n < 2 ^ 63 → Again number (vbe_unsigned n) n
@@ -178,7 +178,7 @@ ring_at-again corner double (first ∷ ps) hc h rest =
     ) refl
 
 -- as often as there are things to read
-pub times-again : {X : Type 0} (read : List ℕ → Read TileKind X) (bytes : X → List ℕ) (Fits : X → Type 0) → ((x : X) → Fits x → Again read (bytes x) x) → (xs : List X) → AllByRecursion Fits xs → Again (times (length xs) read) (flat_map bytes xs) xs
+pub times-again : {Kind X : Type 0} (read : List ℕ → Read Kind X) (bytes : X → List ℕ) (Fits : X → Type 0) → ((x : X) → Fits x → Again read (bytes x) x) → (xs : List X) → AllByRecursion Fits xs → Again (times (length xs) read) (flat_map bytes xs) xs
 unfolding Again times
 times-again read bytes Fits again [] h rest = refl
 times-again read bytes Fits again (x ∷ xs) h rest =

@@ -33,9 +33,9 @@ use Rattle.map_model.proofs.PlacesAgain.{Again, number-again, signed-again, coun
 
 -- ---- fixed widths
 
-pub fixed_number-again : (width n : ℕ) → n < 256 ^ width → Again (fixed_number TileKind.short width) (big_endian width n) n
+pub fixed_number-again : {Kind : Type 0} (short : Kind) (width n : ℕ) → n < 256 ^ width → Again (fixed_number short width) (big_endian width n) n
 unfolding Again big_endian
-fixed_number-again width n fits rest =
+fixed_number-again short width n fits rest =
     let len = length-big_endian width n in
     rw (
       le-ltb (length (big_endian width n ++ rest)) width (rw (length-append (big_endian width n) rest) (omega (arith, len))),
@@ -46,8 +46,8 @@ fixed_number-again width n fits rest =
     here : big_number width (big_endian width n) ≡ n
     here = ap (big_number width) (sym (append-nil (big_endian width n))) ∙ big_number-reads_back width n [] fits
 
-pub one_byte-again : (b : ℕ) (rest : List ℕ) → fixed_number TileKind.short 1 (b ∷ rest) ≡ Ok (b, rest)
-one_byte-again b rest = rw (le-ltb (suc (length rest)) 1 (omega arith)) (ap (λ m. Ok (m, rest)) value)
+pub one_byte-again : {Kind : Type 0} (short : Kind) (b : ℕ) (rest : List ℕ) → fixed_number short 1 (b ∷ rest) ≡ Ok (b, rest)
+one_byte-again short b rest = rw (le-ltb (suc (length rest)) 1 (omega arith)) (ap (λ m. Ok (m, rest)) value)
   where
     value : b * 256 ^ 0 + 0 ≡ b
     value = omega arith
@@ -77,7 +77,7 @@ layer_at-again layer count rest h few =
     let bound = c.few in
     let high : layer_byte layer count / 16 ≡ c.code = omega (arith, is, few) in
     let low : layer_byte layer count % 16 ≡ count = omega (arith, is, few) in
-    rw (one_byte-again (layer_byte layer count) rest, high, low, le-leb c.code 10 bound, c.shown) refl
+    rw (one_byte-again TileKind.short (layer_byte layer count) rest, high, low, le-leb c.code 10 bound, c.shown) refl
 
 -- ---- values and tags
 
@@ -89,22 +89,22 @@ unfolding Again
 value_at-again ValueKind.plain KeptValue.plain h rest = refl
 value_at-again ValueKind.byte (KeptValue.byte (pos n)) h rest =
     let le = leb-true n 127 h in
-    rw (fixed_number-again 1 n (omega (arith, le)) rest, to_z-of_z w8 (pos n) (record { sfits = omega (arith, le) })) refl
+    rw (fixed_number-again TileKind.short 1 n (omega (arith, le)) rest, to_z-of_z w8 (pos n) (record { sfits = omega (arith, le) })) refl
 value_at-again ValueKind.byte (KeptValue.byte (negsuc n)) h rest =
     let le = leb-true n 127 (and-true (leb n 127) h) in
-    rw (fixed_number-again 1 (256 - suc n) (omega (arith, le)) rest, to_z-of_z w8 (negsuc n) (record { sfits = omega (arith, le) })) refl
+    rw (fixed_number-again TileKind.short 1 (256 - suc n) (omega (arith, le)) rest, to_z-of_z w8 (negsuc n) (record { sfits = omega (arith, le) })) refl
 value_at-again ValueKind.short (KeptValue.short (pos n)) h rest =
     let le = leb-true n 32767 h in
-    rw (fixed_number-again 2 n (omega (arith, le)) rest, to_z-of_z w16 (pos n) (record { sfits = omega (arith, le) })) refl
+    rw (fixed_number-again TileKind.short 2 n (omega (arith, le)) rest, to_z-of_z w16 (pos n) (record { sfits = omega (arith, le) })) refl
 value_at-again ValueKind.short (KeptValue.short (negsuc n)) h rest =
     let le = leb-true n 32767 (and-true (leb n 32767) h) in
-    rw (fixed_number-again 2 (65536 - suc n) (omega (arith, le)) rest, to_z-of_z w16 (negsuc n) (record { sfits = omega (arith, le) })) refl
+    rw (fixed_number-again TileKind.short 2 (65536 - suc n) (omega (arith, le)) rest, to_z-of_z w16 (negsuc n) (record { sfits = omega (arith, le) })) refl
 value_at-again ValueKind.int (KeptValue.int (pos n)) h rest =
     let le = leb-true n 2147483647 h in
-    rw (fixed_number-again 4 n (omega (arith, le)) rest, to_z-of_z w32 (pos n) (record { sfits = omega (arith, le) })) refl
+    rw (fixed_number-again TileKind.short 4 n (omega (arith, le)) rest, to_z-of_z w32 (pos n) (record { sfits = omega (arith, le) })) refl
 value_at-again ValueKind.int (KeptValue.int (negsuc n)) h rest =
     let le = leb-true n 2147483647 (and-true (leb n 2147483647) h) in
-    rw (fixed_number-again 4 (4294967296 - suc n) (omega (arith, le)) rest, to_z-of_z w32 (negsuc n) (record { sfits = omega (arith, le) })) refl
+    rw (fixed_number-again TileKind.short 4 (4294967296 - suc n) (omega (arith, le)) rest, to_z-of_z w32 (negsuc n) (record { sfits = omega (arith, le) })) refl
 value_at-again ValueKind.text (KeptValue.text bytes) h rest = rw (text_at-again bytes h rest) refl
 value_at-again _ _ h rest = absurd h
 
@@ -135,26 +135,26 @@ tags_at-again tags kept h rest =
 
 -- ---- flags
 
-num : Bool → ℕ
+unfoldable pub num : Bool → ℕ
 num b = cond b 1 0
 
-num-le : (b : Bool) → num b ≤ 1
+pub num-le : (b : Bool) → num b ≤ 1
 unfolding num
 num-le true = omega arith
 num-le false = omega arith
 
-flag-num : (b : Bool) (bit : ℕ) → flag b bit ≡ bit * num b
+pub flag-num : (b : Bool) (bit : ℕ) → flag b bit ≡ bit * num b
 unfolding num
 flag-num true bit = omega arith
 flag-num false bit = omega arith
 
-has_flag-is : (n bit : ℕ) (b : Bool) → n / bit % 2 ≡ num b → has_flag n bit ≡ b
+pub has_flag-is : (n bit : ℕ) (b : Bool) → n / bit % 2 ≡ num b → has_flag n bit ≡ b
 unfolding num
 has_flag-is n bit true e = rw e refl
 has_flag-is n bit false e = rw e refl
 
 -- a field that is there where its flag is set
-pub where_set-again : {X : Type 0} (read : List ℕ → Read TileKind X) (bytes : X → List ℕ) (Fits : X → Type 0) → ((x : X) → Fits x → Again read (bytes x) x) → (o : Option X) → IfSome o Fits → (rest : List ℕ) → where_set (is_some o) read (optional bytes o ++ rest) ≡ Ok (o, rest)
+pub where_set-again : {Kind X : Type 0} (read : List ℕ → Read Kind X) (bytes : X → List ℕ) (Fits : X → Type 0) → ((x : X) → Fits x → Again read (bytes x) x) → (o : Option X) → IfSome o Fits → (rest : List ℕ) → where_set (is_some o) read (optional bytes o ++ rest) ≡ Ok (o, rest)
 unfolding Again
 where_set-again read bytes Fits again None h rest = refl
 where_set-again read bytes Fits again (Some x) h rest = rw (again x h rest) refl
@@ -215,7 +215,7 @@ poi_at-again names corner p hc h rest =
       place_from-again corner p.place hc h.place (layer_byte p.layer (length p.tags) ∷ after_layer p.tags after_tags),
       layer_at-again p.layer (length p.tags) (after_layer p.tags after_tags) h.layer h.few,
       after_layer-again names p.tags h.kept after_tags,
-      one_byte-again (poi_flags p) after_flags,
+      one_byte-again TileKind.short (poi_flags p) after_flags,
       flags.0,
       flags.1,
       flags.2,
@@ -360,10 +360,10 @@ way_body_at-again names corner w hc h rest =
     ap (way_body_at names corner) (regroup_way (big_endian 2 w.bits) (tag_bytes w.layer w.tags) (way_flags w) (optional string w.name) (optional string w.house) (optional string w.reference) (label_bytes w.blocks w.label) (count_bytes w.counted w.blocks) (flat_map (block_bytes corner w.double) w.blocks) rest
     ∙ ap (λ t. big_endian 2 w.bits ++ t) (tag_bytes-split w.layer w.tags after_tags))
     ∙ rw (
-      fixed_number-again 2 w.bits h.bits tags,
+      fixed_number-again TileKind.short 2 w.bits h.bits tags,
       layer_at-again w.layer (length w.tags) (after_layer w.tags after_tags) h.layer h.few,
       after_layer-again names w.tags h.kept after_tags,
-      one_byte-again (way_flags w) after_flags,
+      one_byte-again TileKind.short (way_flags w) after_flags,
       flags.0,
       flags.1,
       flags.2,
