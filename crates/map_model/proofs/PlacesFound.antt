@@ -1,12 +1,12 @@
 -- What is read as a number, a text, a place or a ring is spelled so.
-use Rattle.std.proofs.Common.{◌≡◌, ℕ, zero, suc, ◌-◌, ◌^◌, ◌<◌, ◌≤◌, List, [], ◌∷◌, length, take, drop, refl, sym, ap, ◌∙◌, subst, arith, true, false}
+use Rattle.std.proofs.Common.{◌≡◌, Ok, ℕ, zero, suc, ◌-◌, ◌^◌, ◌<◌, ◌≤◌, List, [], ◌∷◌, length, take, drop, refl, sym, ap, ◌∙◌, subst, arith, true, false}
 use Rattle.std.specs.Prelude.{Bool, flat_map, ℤ, neg_ℤ, ◌+ℤ◌, ◌-ℤ◌, IsTrue, nat_abs}
 use Rattle.std.specs.List.{AllByRecursion}
 use Rattle.std.specs.Str.{is_utf8}
 use Rattle.std.proofs.lemmas.Bool.{leb-true}
 use Rattle.std.proofs.lemmas.List.{length-take-le}
 use Rattle.std.proofs.Math.IntN.{+ℤ_comm, +ℤ_assoc, +ℤ-neg_ℤ_cancel, neg_ℤ-+ℤ}
-use Rattle.mf_base.specs.Spelling.{vbe_unsigned, vbe_signed, string}
+use Rattle.mf_base.specs.Spelling.{IsBytes, vbe_unsigned, vbe_signed, string}
 use Rattle.mf_base.specs.NumberReading.{unsigned_front, signed_front}
 use Rattle.mf_base.specs.declared.place.Place.{Place}
 use Rattle.mf_base.specs.Ranges.{is_signed_32}
@@ -16,16 +16,21 @@ use Rattle.mf_base.proofs.NumberLemmas.{unsigned_front-found, signed_front-found
 use Rattle.feature_model.specs.Inside.{Ring}
 use Rattle.map_model.specs.Tiles.{origin}
 use Rattle.map_model.specs.Layout.{step, step_bytes, steps_from, ring_bytes, block_bytes}
+use Rattle.map_model.specs.Reader.{with_rest}
 use Rattle.map_model.specs.TileReading.{number, signed, count_from, text_at, ranged, place_from, moved, places_after, ring_at, block_at, IsText, IsInRange, IsRing, IsBlock}
 use Rattle.map_model.proofs.ReaderFound.{Takes, IsFound, Finds, nothing, taken, then, with_rest_ok, front, times-found}
 use Rattle.map_model.proofs.PlacesAgain.{after_first, coordinates-split}
 
-pub number-found : Finds number vbe_unsigned (λ n. n < 2 ^ 63)
-unfolding number
-number-found bytes r small e =
-    let size = with_rest_ok bytes (unsigned_front bytes) r (told_ok _ _ r e) in
+-- an unsigned number, whatever its fault is told as
+pub unsigned-found : (bytes : List ℕ) (r : ℕ × List ℕ) → IsBytes bytes → with_rest bytes (unsigned_front bytes) ≡ Ok r → IsFound vbe_unsigned (λ n. n < 2 ^ 63) bytes r
+unsigned-found bytes r small e =
+    let size = with_rest_ok bytes (unsigned_front bytes) r e in
     let found = unsigned_front-found bytes r.0 size.0 small size.1 in
     (front size.0 bytes (vbe_unsigned r.0) r.1 small (vbe_unsigned-only r.0 (take size.0 bytes) found.spelled) size.2, found.fits)
+
+pub number-found : Finds number vbe_unsigned (λ n. n < 2 ^ 63)
+unfolding number
+number-found bytes r small e = unsigned-found bytes r small (told_ok _ _ r e)
 
 pub signed-found : Finds signed vbe_signed (λ z. nat_abs z < 2 ^ 63)
 unfolding signed

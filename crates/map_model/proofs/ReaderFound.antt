@@ -2,8 +2,8 @@
 use Rattle.std.proofs.Common.{◌≡◌, inl, inr, ◌+◌, ℕ, zero, suc, ◌^◌, ◌<◌, ◌≤◌, List, [], ◌∷◌, ◌++◌, length, take, drop, refl, sym, ap, ◌∙◌, subst, arith, true, false, append_assoc, Result, Ok, Err, Some, None}
 use Rattle.std.specs.Prelude.{Bool, nat_lt, flat_map, IfSome, is_some}
 use Rattle.std.specs.List.{AllByRecursion, AllZip}
-use Rattle.std.proofs.lemmas.Bool.{ltb-false}
-use Rattle.std.proofs.lemmas.List.{take-append-drop, get_or-drop, length-take-le}
+use Rattle.std.proofs.lemmas.Bool.{ltb-false, cases_lt}
+use Rattle.std.proofs.lemmas.List.{take-append-drop, get_or-drop, get_or-take, get_or_past, length-take, length-take-le}
 use Rattle.byteorder.specs.Endian.{big_number}
 use Rattle.byteorder.specs.Numbers.{big_from-lt, big_from-take}
 use Rattle.mf_base.specs.Spelling.{IsBytes, big_endian}
@@ -29,6 +29,13 @@ Finds {Kind} {X} read spell Fits = (bytes : List ℕ) (r : X × List ℕ) → Is
 
 pub drop-bytes : (k : ℕ) (bytes : List ℕ) → IsBytes bytes → IsBytes (drop k bytes)
 drop-bytes k bytes small i = rw (get_or-drop k bytes i 0) (small (k + i))
+
+pub take-bytes : (k : ℕ) (bytes : List ℕ) → IsBytes bytes → IsBytes (take k bytes)
+take-bytes k bytes small i =
+    elim (cases_lt i k) [
+      | inl lt ↦ rw (get_or-take k bytes i 0 lt) (small i)
+      | inr le ↦ rw (get_or_past (take k bytes) i 0 (omega (arith, length-take k bytes))) (omega arith)
+    ]
 
 pub nothing : (bytes : List ℕ) → IsBytes bytes → Takes bytes [] bytes
 nothing bytes small = record { spelt = refl; behind = small }
@@ -61,11 +68,14 @@ fixed_is short width bytes r e =
       | inr whole ↦ (ltb-false (length bytes) width whole.0, ok_is (take width bytes, drop width bytes) r whole.1)
     ]
 
+abbrev pub AreSoManyBytes : ℕ → List ℕ → Type 0
+AreSoManyBytes width field = (length field ≡ width) × IsBytes field
+
 -- so many bytes
-pub fixed-found : {Kind : Type 0} (short : Kind) (width : ℕ) → Finds (fixed short width) (λ field. field) (λ field. length field ≡ width)
+pub fixed-found : {Kind : Type 0} (short : Kind) (width : ℕ) → Finds (fixed short width) (λ field. field) (AreSoManyBytes width)
 fixed-found short width bytes r small e =
     let is = fixed_is short width bytes r e in
-    subst (IsFound (λ field. field) (λ field. length field ≡ width) bytes) is.1 (taken width bytes small, length-take-le width bytes is.0)
+    subst (IsFound (λ field. field) (AreSoManyBytes width) bytes) is.1 (taken width bytes small, (length-take-le width bytes is.0, take-bytes width bytes small))
 
 -- a number of so many bytes
 pub fixed_number-found : {Kind : Type 0} (short : Kind) (width : ℕ) → Finds (fixed_number short width) (big_endian width) (λ n. n < 256 ^ width)
