@@ -1,6 +1,6 @@
 -- What is read as a string, a list of tags, a box or the intervals of a header is spelled so.
-use Rattle.std.proofs.Common.{◌≡◌, ℕ, zero, suc, ◌+◌, ◌^◌, ◌<◌, ◌≤◌, List, [], ◌∷◌, ◌++◌, map, length, take, drop, refl, sym, ap, ◌∙◌, subst, arith, true, false, Result, Ok, Err}
-use Rattle.std.specs.Prelude.{flat_map, zip, IsTrue, ℤ}
+use Rattle.std.proofs.Common.{◌≡◌, ℕ, ◌+◌, ◌<◌, ◌≤◌, List, ◌++◌, length, take, drop, sym, ap, ◌∙◌, subst, arith, Result, Ok, Err}
+use Rattle.std.specs.Prelude.{flat_map, IsTrue}
 use Rattle.std.specs.List.{AllByRecursion}
 use Rattle.std.specs.Int.{w32}
 use Rattle.std.proofs.lemmas.Bool.{leb-true}
@@ -9,7 +9,7 @@ use Rattle.std.proofs.lemmas.List.{length-drop, take_all}
 use Rattle.std.proofs.Math.Seq.{take-add}
 use Rattle.byteorder.specs.Endian.{big_bytes, big_number}
 use Rattle.byteorder.specs.Numbers.{big_from-lt}
-use Rattle.mf_base.specs.Spelling.{IsBytes, vbe_unsigned, string, big_endian}
+use Rattle.mf_base.specs.Spelling.{IsBytes, string, big_endian}
 use Rattle.mf_base.specs.NumberReading.{unsigned_front}
 use Rattle.mf_base.specs.Ranges.{is_rect}
 use Rattle.mf_base.specs.declared.number.VbeFault.{VbeFault}
@@ -18,7 +18,7 @@ use Rattle.mf_base.specs.declared.tile.Interval.{Interval}
 use Rattle.mf_base.proofs.StepLaws.{err_is_no_ok, bind_ok, require_ok, ok_is}
 use Rattle.mf_base.proofs.BigBytes.{big_bytes-big_number}
 use Rattle.map_model.specs.Header.{SubFile, be_signed, box_bytes, tag_list_bytes, interval_bytes}
-use Rattle.map_model.specs.Reader.{times, with_rest}
+use Rattle.map_model.specs.Reader.{with_rest}
 use Rattle.map_model.specs.TileReading.{IsText}
 use Rattle.map_model.specs.HeaderReading.{HeaderKind, length_of, string_at, tag_name_at, tag_list_at, signed_32, rect_of_bytes, box_at, interval_of_bytes, is_interval, interval_at, intervals_at, IsTagName, AreTagNames, FitsInterval}
 use Rattle.map_model.proofs.ReaderFound.{Takes, IsFound, Finds, then, drop-bytes, fixed-found, fixed_number-found, times-found}
@@ -98,7 +98,7 @@ box_at-found bytes r small e =
 
 -- ---- intervals
 
-number_field : (width : ℕ) (bytes : List ℕ) → IsBytes bytes → width ≤ length bytes → big_endian width (big_number width bytes) ≡ take width bytes
+pub number_field : (width : ℕ) (bytes : List ℕ) → IsBytes bytes → width ≤ length bytes → big_endian width (big_number width bytes) ≡ take width bytes
 unfolding big_endian
 number_field width bytes small some = big_bytes-big_number width bytes small some
 

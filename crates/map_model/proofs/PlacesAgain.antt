@@ -15,7 +15,7 @@ use Rattle.feature_model.specs.Inside.{Ring}
 use Rattle.map_model.specs.Tiles.{origin}
 use Rattle.map_model.specs.Layout.{step, step_bytes, steps_from, ring_steps, coordinate_bytes, ring_bytes, block_bytes}
 use Rattle.map_model.specs.Reader.{Read, times}
-use Rattle.map_model.specs.TileReading.{TileKind, number, signed, count_from, text_at, ranged, place_from, moved, places_after, ring_at, block_at, IsText, IsInRange, IsRing, IsBlock}
+use Rattle.map_model.specs.TileReading.{number, signed, count_from, text_at, ranged, place_from, moved, places_after, ring_at, block_at, IsText, IsInRange, IsRing, IsBlock}
 
 -- a reader reads x from these bytes, whatever follows them
 unfoldable pub Again : {Kind X : Type 0} → (List ℕ → Read Kind X) → List ℕ → X → Type 0

@@ -1,5 +1,5 @@
 -- What a reader finds stands at the front of the bytes.
-use Rattle.std.proofs.Common.{◌≡◌, inl, inr, ◌+◌, ℕ, zero, suc, ◌^◌, ◌<◌, ◌≤◌, List, [], ◌∷◌, ◌++◌, length, take, drop, refl, sym, ap, ◌∙◌, subst, arith, true, false, append_assoc, Result, Ok, Err, Some, None}
+use Rattle.std.proofs.Common.{◌≡◌, inl, inr, ◌+◌, ℕ, zero, suc, ◌^◌, ◌<◌, ◌≤◌, List, [], ◌∷◌, ◌++◌, length, take, drop, append-nil, refl, sym, ap, ◌∙◌, subst, arith, true, false, append_assoc, Result, Ok, Err, Some, None}
 use Rattle.std.specs.Prelude.{Bool, nat_lt, flat_map, IfSome, is_some}
 use Rattle.std.specs.List.{AllByRecursion, AllZip}
 use Rattle.std.proofs.lemmas.Bool.{ltb-false, cases_lt}
@@ -50,6 +50,11 @@ then {bytes} {a} {middle} {b} {rest} x y = record { spelt = x.spelt ∙ ap (λ c
 pub with_rest_ok : {E X : Type 0} (bytes : List ℕ) (f : Result (X × ℕ) E) (r : X × List ℕ) → with_rest bytes f ≡ Ok r → (size : ℕ) × (f ≡ Ok (r.0, size)) × (drop size bytes ≡ r.1)
 with_rest_ok bytes (Ok found) r e = let is = ok_is (found.0, drop found.1 bytes) r e in (found.1, ap (λ q. Ok (q.0, found.1)) is, ap (λ q. q.1) is)
 with_rest_ok bytes (Err f) r e = absurd (err_is_no_ok f r e)
+
+-- nothing is left
+pub none_left : (bytes text rest : List ℕ) → Takes bytes text rest → length rest ≡ 0 → bytes ≡ text
+none_left bytes text [] h e = h.spelt ∙ append-nil text
+none_left bytes text (b ∷ rest) h e = absurd (omega (arith, e))
 
 pub placed_ok : {Kind X : Type 0} (total : ℕ) (r : Result X (Stop Kind)) (x : X) → placed total r ≡ Ok x → r ≡ Ok x
 placed_ok total (Ok y) x e = cc
