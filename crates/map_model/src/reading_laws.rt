@@ -1,6 +1,6 @@
-//! Laws of reading: what is read is spelled so.
+//! Laws of reading, beside that of a tile in `laws`: what is spelled is read, and what is read is spelled so.
 
-ghost use Rattle.std.specs.Prelude.{◌≡◌, ℕ, ◌+◌, ◌<◌, ◌≤◌, ◌^◌, List, length, take, Ok};
+ghost use Rattle.std.specs.Prelude.{◌≡◌, ℕ, ◌+◌, ◌-◌, ◌<◌, ◌≤◌, ◌^◌, List, ◌++◌, length, take, Ok};
 ghost use Rattle.mf_base.specs.Spelling.{IsBytes};
 ghost use Rattle.mf_base.specs.declared.tile.TilePlace.{TilePlace};
 ghost use Rattle.map_model.specs.Listed.{TagLists, Listed};
@@ -12,6 +12,13 @@ ghost use Rattle.map_model.specs.HeaderReading.{Header, ReadsHeader, ReadsMapHea
 pub fn tile_is_spelled()
     ensures spelled { (names : TagLists) (tile : TilePlace) (bytes : List ℕ) (shown : List Listed) → tile.x < 2 ^ tile.interval.base
         → IsBytes bytes → length bytes < 2 ^ 63 → read_tile names tile bytes ≡ Ok shown → ReadsTile names tile bytes shown }
+{}
+
+/// A header that is spelled is read as what it tells, whatever follows it, and its size with it. So it tells nothing else.
+pub fn header_is_read_again()
+    ensures read { (total : ℕ) (bytes rest : List ℕ) (header : Header) → ReadsHeader total bytes header → read_header total (bytes ++ rest) ≡ Ok header }
+    ensures length { (total : ℕ) (bytes rest : List ℕ) (header : Header) → ReadsHeader total bytes header → header_length total (bytes ++ rest) ≡ Ok (length bytes - 24) }
+    ensures file { (file : List ℕ) (header : Header) → ReadsMapHeader file header → read_header (length file) file ≡ Ok header }
 {}
 
 /// What is read of a header is what its bytes spell, each of them. The bytes are the first of a file of `total` bytes, at least to the header's end.
