@@ -14,7 +14,7 @@ use Rattle.map_model.specs.TileReading.{has_flag}
 use Rattle.map_model.specs.HeaderReading.{HeaderKind, HeaderFault, Header, tag_list_at, box_at, intervals_at, head_at, flags_at, optional_at, version_at, projection_at, fields_at, value_alone, header_length, fields_of, read_header, FitsInterval, is_interval, IsHeader, shown_header, ReadsHeader, ReadsMapHeader}
 use Rattle.map_model.proofs.SizeLemmas.{length-big_endian}
 use Rattle.map_model.proofs.ReaderFound.{placed_ok, none_left, Takes, take-bytes, drop-bytes, then, fixed-found, fixed_number-found}
-use Rattle.map_model.proofs.RecordsFound.{flag_as}
+use Rattle.map_model.proofs.RecordsFound.{below_4, flag_as}
 use Rattle.map_model.proofs.HeaderPartsFound.{IsIntervalOf, tag_list_at-found, box_at-found, intervals_at-found}
 use Rattle.map_model.proofs.HeaderFieldsFound.{bytes_same, AreOptions, IsProjection, flags_at-found, optional_at-found, version_at-found, projection_at-found}
 
@@ -104,9 +104,6 @@ head_flags-sum set flags fits plain start zoom language comment created_by =
     let d = flag_as flags 0x08 (is_some set.comment) comment in
     let e = flag_as flags 0x04 (is_some set.created_by) created_by in
     omega (arith, o, a, b, c, d, e, fits)
-
-below_4 : (n : ℕ) → n % 4 < 4
-below_4 n = omega arith
 
 -- what the fields tell
 abbrev told_fields : (total end : ℕ) (bytes : List ℕ) (r : Header × List ℕ) → (x : FieldParts total end bytes r) → IsProjection x.box.1 x.tile.1 → AreOptions x.flags.0 x.flags.1 x.options.1 → HeaderFields

@@ -37,9 +37,11 @@ take-bytes k bytes small i =
       | inr le ↦ rw (get_or_past (take k bytes) i 0 (omega (arith, length-take k bytes))) (omega arith)
     ]
 
+-- nothing is taken
 pub nothing : (bytes : List ℕ) → IsBytes bytes → Takes bytes [] bytes
 nothing bytes small = record { spelt = refl; behind = small }
 
+-- so many bytes are taken
 pub taken : (k : ℕ) (bytes : List ℕ) → IsBytes bytes → Takes bytes (take k bytes) (drop k bytes)
 taken k bytes small = record { spelt = sym (take-append-drop k bytes); behind = drop-bytes k bytes small }
 
@@ -47,11 +49,12 @@ taken k bytes small = record { spelt = sym (take-append-drop k bytes); behind = 
 pub then : {bytes a middle b rest : List ℕ} → Takes bytes a middle → Takes middle b rest → Takes bytes (a ++ b) rest
 then {bytes} {a} {middle} {b} {rest} x y = record { spelt = x.spelt ∙ ap (λ c. a ++ c) y.spelt ∙ sym (append_assoc a b rest); behind = y.behind }
 
+-- what was found has a size, and the rest is behind it
 pub with_rest_ok : {E X : Type 0} (bytes : List ℕ) (f : Result (X × ℕ) E) (r : X × List ℕ) → with_rest bytes f ≡ Ok r → (size : ℕ) × (f ≡ Ok (r.0, size)) × (drop size bytes ≡ r.1)
 with_rest_ok bytes (Ok found) r e = let is = ok_is (found.0, drop found.1 bytes) r e in (found.1, ap (λ q. Ok (q.0, found.1)) is, ap (λ q. q.1) is)
 with_rest_ok bytes (Err f) r e = absurd (err_is_no_ok f r e)
 
--- nothing is left
+-- the bytes are a text behind which nothing is left
 pub none_left : (bytes text rest : List ℕ) → Takes bytes text rest → length rest ≡ 0 → bytes ≡ text
 none_left bytes text [] h e = h.spelt ∙ append-nil text
 none_left bytes text (b ∷ rest) h e = absurd (omega (arith, e))
@@ -73,6 +76,7 @@ fixed_is short width bytes r e =
       | inr whole ↦ (ltb-false (length bytes) width whole.0, ok_is (take width bytes, drop width bytes) r whole.1)
     ]
 
+-- a field of so many bytes
 abbrev pub AreSoManyBytes : ℕ → List ℕ → Type 0
 AreSoManyBytes width field = (length field ≡ width) × IsBytes field
 
@@ -96,6 +100,7 @@ fixed_number-found short width bytes r small e =
 
 -- ---- several
 
+-- so many times the same
 pub times-found : {Kind X : Type 0} (read : List ℕ → Read Kind X) (spell : X → List ℕ) (Fits : X → Type 0) → Finds read spell Fits → (n : ℕ) → Finds (times n read) (flat_map spell) (λ xs. (length xs ≡ n) × AllByRecursion Fits xs)
 unfolding times
 times-found read spell Fits finds zero bytes r small e =

@@ -194,8 +194,12 @@ poi_flags-sum p flags fits name house height other =
     let c = flag_as flags 0x20 (is_some p.height) height in
     omega (arith, a, b, c, other, fits)
 
+-- the bits without a name
 below_32 : (n : ℕ) → n % 32 < 32
 below_32 n = omega arith
+
+pub below_4 : (n : ℕ) → n % 4 < 4
+below_4 n = omega arith
 
 pub poi_at-found : (names : List (List ℕ)) (corner : Place) → Finds (poi_at names corner) (poi_fields_bytes corner) (IsPoi names)
 unfolding poi_at poi_fields_bytes

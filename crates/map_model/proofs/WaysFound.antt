@@ -13,7 +13,7 @@ use Rattle.map_model.specs.Reader.{fixed_number, where_set}
 use Rattle.map_model.specs.TileReading.{TileKind, layer_at, tags_at, text_at, place_from, has_flag, block_at, block_count_at, blocks_at, first_place_at, two_signed, label_and_blocks_at, way_body_at, way_at, IsText, IsInRange, IsBlock, IsWay}
 use Rattle.map_model.proofs.ReaderFound.{Takes, IsFound, Finds, nothing, then, fixed_number-found, times-found, where_set-found}
 use Rattle.map_model.proofs.PlacesFound.{number-found, signed-found, count_from-found, text_at-found, place_from-found, block_at-found}
-use Rattle.map_model.proofs.RecordsFound.{byte-found, layered, flag_as}
+use Rattle.map_model.proofs.RecordsFound.{below_4, byte-found, layered, flag_as}
 use Rattle.map_model.proofs.PlacesAgain.{Again}
 use Rattle.map_model.proofs.RecordsAgain.{count_bytes, first_place-again, first_in_range, two_signed-again}
 
@@ -129,9 +129,6 @@ way_flags-sum w flags fits name house reference label counted double other =
     let e = flag_as flags 0x08 w.counted counted in
     let f = flag_as flags 0x04 w.double double in
     omega (arith, a, b, c, d, e, f, other, fits)
-
-below_4 : (n : ℕ) → n % 4 < 4
-below_4 n = omega arith
 
 -- the last three parts, one behind the other
 last_three : (front label count blocks : List ℕ) → front ++ (label ++ (count ++ blocks)) ≡ front ++ label ++ count ++ blocks
