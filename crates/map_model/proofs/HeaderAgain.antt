@@ -7,11 +7,11 @@ use Rattle.std.proofs.lemmas.List.{drop_at, take_at, take-append-drop}
 use Rattle.std.proofs.lemmas.Slice.Zip.{length-zip, firsts-zip, seconds-zip}
 use lib.Utf8.{encode}
 use Rattle.mf_base.specs.Spelling.{string, big_endian}
-use Rattle.map_model.specs.Layout.{optional, flag}
+use Rattle.map_model.specs.Layout.{optional}
 use Rattle.map_model.specs.Header.{HeadSettings, HeaderFields, magic_word, mercator_word, box_bytes, head_flags, tag_list_bytes, interval_bytes, middle_bytes, fields_bytes, header_fields_bytes}
 use Rattle.map_model.specs.Reader.{fixed, where_set}
 use Rattle.map_model.specs.TileReading.{has_flag, IsText}
-use Rattle.map_model.specs.HeaderReading.{HeaderKind, Header, string_at, tag_list_at, box_at, intervals_at, head_at, flags_at, optional_at, version_at, projection_at, fields_at, header_length, fields_of, read_header, IsHeader, shown_header, ReadsHeader, ReadsMapHeader}
+use Rattle.map_model.specs.HeaderReading.{HeaderKind, Header, string_at, intervals_at, head_at, flags_at, optional_at, version_at, projection_at, fields_at, header_length, fields_of, read_header, IsHeader, shown_header, ReadsHeader, ReadsMapHeader}
 use Rattle.map_model.proofs.SizeLemmas.{length-big_endian}
 use Rattle.map_model.proofs.PlacesAgain.{Again}
 use Rattle.map_model.proofs.RecordsAgain.{num, num-le, flag-num, has_flag-is, fixed_number-again, one_byte-again, where_set-again}

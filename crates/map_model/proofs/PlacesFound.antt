@@ -11,8 +11,7 @@ use Rattle.mf_base.specs.NumberReading.{unsigned_front, signed_front}
 use Rattle.mf_base.specs.declared.place.Place.{Place}
 use Rattle.mf_base.specs.Ranges.{is_signed_32}
 use Rattle.mf_base.proofs.StepLaws.{bind_ok, require_ok, told_ok, ok_is}
-use Rattle.mf_base.proofs.Vbe.{vbe_unsigned-only}
-use Rattle.mf_base.proofs.NumberLemmas.{unsigned_front-found, signed_front-found, vbe_signed-only}
+use Rattle.mf_base.proofs.NumberLemmas.{vbe_unsigned-only, unsigned_front-found, signed_front-found, vbe_signed-only}
 use Rattle.feature_model.specs.Inside.{Ring}
 use Rattle.map_model.specs.Tiles.{origin}
 use Rattle.map_model.specs.Layout.{step, step_bytes, steps_from, ring_bytes, block_bytes}

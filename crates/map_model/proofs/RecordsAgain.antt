@@ -14,7 +14,7 @@ use Rattle.mf_base.specs.declared.place.Place.{Place}
 use Rattle.mf_base.specs.Ranges.{is_signed_32, lies_within}
 use Rattle.mf_base.specs.declared.tile.Interval.{Interval}
 use Rattle.mf_base.specs.declared.tile.TilePlace.{TilePlace}
-use Rattle.mf_base.proofs.Vbe.{length-vbe_unsigned-positive}
+use Rattle.mf_base.proofs.OneSpelling.{length-vbe-positive}
 use Rattle.feature_model.specs.Features.{Block, Feature}
 use Rattle.feature_model.specs.Inside.{Ring}
 use Rattle.feature_model.specs.Mapping.{KeptValue, ValueKind}
@@ -494,7 +494,7 @@ not_empty names interval corner levels h =
     let all = ap length (h.spelt ∙ levels_bytes-parts corner levels) in
     let a = length-append (flat_map level_count_bytes levels) (vbe_unsigned (length (pois_bytes corner levels)) ++ (pois_bytes corner levels ++ ways_bytes corner levels)) in
     let b = length-append (vbe_unsigned (length (pois_bytes corner levels))) (pois_bytes corner levels ++ ways_bytes corner levels) in
-    let some = length-vbe_unsigned-positive (length (pois_bytes corner levels)) in
+    let some = length-vbe-positive 128 0 (length (pois_bytes corner levels)) (omega arith) in
     omega (arith, all, a, b, some)
 
 read_tile-spelt : (names : TagLists) (tile : TilePlace) (bytes : List ℕ) (levels : List Level) → IsInRange (tile_corner tile) → SpellsLevels names tile.interval (tile_corner tile) bytes levels → read_tile names tile bytes ≡ Ok (shown_levels names tile.interval levels)

@@ -1,5 +1,6 @@
+pub mod Pairs
 pub mod StepLaws
-pub mod Vbe
+pub mod OneSpelling
 pub mod Runs
 pub mod NumberLemmas
 pub mod Compute

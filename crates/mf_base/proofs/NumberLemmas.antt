@@ -6,7 +6,7 @@ use Rattle.std.proofs.lemmas.List.{length-append, get_or-take, get_or_past, leng
 use Rattle.mf_base.specs.Spelling.{IsBytes, IsVbe, IsVbeUnsigned, IsVbeSigned, IsVarint, vbe, vbe_unsigned, vbe_signed, zigzag_of, unzigzag_of, high_run, sevens, first_run}
 use Rattle.mf_base.specs.NumberReading.{has_end, is_narrow, run_size, varint_front, run_magnitude, run_sign, vbe_front, unsigned_front, with_sign, signed_front}
 use Rattle.mf_base.proofs.StepLaws.{bind_ok, require_ok, ok_is}
-use Rattle.mf_base.proofs.Vbe.{vbe-only, vbe-is, vbe-small, vbe-more, length-vbe_unsigned-63, length-vbe_signed-63}
+use Rattle.mf_base.proofs.OneSpelling.{vbe-only, vbe-is, vbe-small, vbe-more, length-vbe_unsigned-63, length-vbe_signed-63}
 use Rattle.mf_base.proofs.Runs.{high_run-low, high_run-high, high_run-append, first_run-append, length-first_run, high_run-first_run}
 
 -- ---- the tests of a run

@@ -1,11 +1,11 @@
 -- Objects in order rise.
 use Rattle.std.proofs.Common.{◌≡◌, ◌==◌, ◌||◌, ℕ, ◌<◌, ◌≤◌, List, [], ◌∷◌, ◌++◌, refl, sym, ap, subst, ◌∙◌, arith, inl, inr, true, false, Bool, cond, Result, Ok, Err, Option, Some, None, ℤ, pos, negsuc, nat_lt, append_assoc, append-nil}
-use Rattle.std.specs.Prelude.{⊤, suc, AllPairs, nat_abs, int_le, map, unwrap_or, filter}
-use Rattle.std.specs.List.{AllByRecursion, last_or}
+use Rattle.std.specs.Prelude.{⊤, nat_abs, int_le, map, unwrap_or, filter}
+use Rattle.std.specs.List.{All, AllByRecursion, last_or}
 use Rattle.std.proofs.lemmas.Bool.{leb-false, ltb-false, false≢true}
-use Rattle.std.proofs.lemmas.List.Elements.{All-head, All-tail, All-nil, All-cons, All-from_recursion, recursion_from_All}
-use Rattle.std.proofs.lemmas.List.Kept.{AllPairs-cons}
+use Rattle.std.proofs.lemmas.List.Elements.{All-head, All-tail, All-nil, All-cons}
 use Rattle.mf_base.specs.declared.kind.EntityKind.{EntityKind}
+use Rattle.mf_base.proofs.Pairs.{EachPair, each_pair, all_pairs}
 use Rattle.mf_base.specs.Steps.{refuse}
 use Rattle.mf_base.proofs.StepLaws.{bind_ok, refuse_ok, chosen}
 use Rattle.mf_base.specs.declared.kind.EntityKind.TheVariants as kinds
@@ -13,37 +13,36 @@ use Rattle.osm_model.specs.Reading.{Reading}
 use Rattle.osm_model.specs.Blocks.{PrimitiveBlock}
 use Rattle.osm_model.specs.Objects.{EntityFault, Object, block_objects, kind_order, out_of_order}
 use Rattle.osm_model.specs.Entities.{Entity, kind_of, id_of}
-use Rattle.osm_model.specs.Order.{rank, has_later_kind, ids_of, last_id, order_fault, placed, in_order, Precedes, IsRising}
+use Rattle.osm_model.specs.Order.{rank, has_later_kind, ids_of, last_id, order_fault, placed, in_order, key_of, Precedes, IsRising}
 use Rattle.osm_model.proofs.TableLaws.{some_no_none}
 use Rattle.osm_model.proofs.OrderLaws.{in_order-nil, in_order-err, in_order-refused, in_order-next}
 use Rattle.osm_model.proofs.TellingLaws.{Consistent, AllTell, block_tell}
 
+-- the first object may stand before the second
+abbrev Before : Entity → Entity → Type 0
+Before d e = Precedes (key_of d) (key_of e)
+
 -- each id is above 0, and each object may stand before all that follow: by recursion on the list
 abbrev Rises : List Entity → Type 0
 Rises [] = ⊤
-Rises (e ∷ es) = (0 < id_of e) × AllByRecursion (λ later. Precedes e later) es × Rises es
+Rises (e ∷ es) = (0 < id_of e) × AllByRecursion (λ later. Before e later) es × Rises es
 
-precedes_later : (e : Entity) (es : List Entity) → AllPairs Precedes (e ∷ es) → AllByRecursion (λ later. Precedes e later) es
-precedes_later e es pairs = recursion_from_All (Precedes e) es (λ k d within. pairs 0 (suc k) d (omega arith) (omega (arith, within)))
-
-pairs_behind : (e : Entity) (es : List Entity) → AllPairs Precedes (e ∷ es) → AllPairs Precedes es
-pairs_behind e es pairs i j d less within = pairs (suc i) (suc j) d (omega (arith, less)) (omega (arith, within))
+rises_of_pairs : (es : List Entity) → All (λ e. 0 < id_of e) es → EachPair Before es → Rises es
+rises_of_pairs [] some pairs = tt
+rises_of_pairs (e ∷ es) some pairs = (All-head (λ x. 0 < id_of x) e es some, pairs.0, rises_of_pairs es (All-tail (λ x. 0 < id_of x) e es some) pairs.1)
 
 rises : (es : List Entity) → IsRising es → Rises es
-rises [] h = tt
-rises (e ∷ es) h = (All-head (λ x. 0 < id_of x) e es h.0, precedes_later e es h.1, rises es (All-tail (λ x. 0 < id_of x) e es h.0, pairs_behind e es h.1))
+rises es h = rises_of_pairs es h.0 (each_pair Before es h.1)
 
-no_pairs : AllPairs Precedes []
-no_pairs i j d less within = absurd (omega (arith, within))
+rising_pairs : (es : List Entity) → Rises es → All (λ e. 0 < id_of e) es × EachPair Before es
+rising_pairs [] h = (All-nil (λ x. 0 < id_of x), tt)
+rising_pairs (e ∷ es) h = let others = rising_pairs es h.2 in (All-cons (λ x. 0 < id_of x) e es h.0 others.0, (h.1, others.1))
 
 is_rising : (es : List Entity) → Rises es → IsRising es
-is_rising [] h = (All-nil (λ x. 0 < id_of x), no_pairs)
-is_rising (e ∷ es) h =
-    let others = is_rising es h.2 in
-    (All-cons (λ x. 0 < id_of x) e es h.0 others.0, AllPairs-cons Precedes e es (All-from_recursion (Precedes e) es h.1) others.1)
+is_rising es h = let parts = rising_pairs es h in (parts.0, all_pairs Before es parts.1)
 
 pub rising_nil : IsRising []
-rising_nil = (All-nil (λ x. 0 < id_of x), no_pairs)
+rising_nil = is_rising [] tt
 
 below_id : (id : ℤ) (n : ℕ) → int_le id (pos n) ≡ false → n < nat_abs id
 below_id (pos m) n e = leb-false m n e
@@ -84,7 +83,7 @@ OfKindBelow kind n es = AllByRecursion (λ d. kind_of d ≡ kind → id_of d < n
 abbrev OfKindAbove : EntityKind → ℕ → List Entity → Type 0
 OfKindAbove kind n es = AllByRecursion (λ d. kind_of d ≡ kind → n < id_of d) es
 
-preceded : (kind : EntityKind) (d : Entity) (es : List Entity) → kind_of d ≡ kind → AllByRecursion (λ later. Precedes d later) es → OfKindAbove kind (id_of d) es
+preceded : (kind : EntityKind) (d : Entity) (es : List Entity) → kind_of d ≡ kind → AllByRecursion (λ later. Before d later) es → OfKindAbove kind (id_of d) es
 preceded kind d [] same h = tt
 preceded kind d (e ∷ es) same h = ((λ k. h.0.1 (same ∙ sym k)), preceded kind d es same h.1)
 
@@ -128,7 +127,7 @@ order_parts before kind id e =
     ]
 
 -- all may stand before an object of no earlier kind whose id is above those of its kind
-precede : (es : List Entity) (e : Entity) → AllByRecursion (λ d. rank (kind_of d) ≤ rank (kind_of e)) es → OfKindBelow (kind_of e) (id_of e) es → AllByRecursion (λ d. Precedes d e) es
+precede : (es : List Entity) (e : Entity) → AllByRecursion (λ d. rank (kind_of d) ≤ rank (kind_of e)) es → OfKindBelow (kind_of e) (id_of e) es → AllByRecursion (λ d. Before d e) es
 precede [] e kinds_rise ids_rise = tt
 precede (d ∷ ds) e kinds_rise ids_rise = ((kinds_rise.0, ids_rise.0), precede ds e kinds_rise.1 ids_rise.1)
 
@@ -136,9 +135,9 @@ all_with : (P : Entity → Type 0) (xs : List Entity) (y : Entity) → AllByRecu
 all_with P [] y h k = (k, tt)
 all_with P (x ∷ xs) y h k = (h.0, all_with P xs y h.1 k)
 
-rising_with : (es : List Entity) (e : Entity) → Rises es → 0 < id_of e → AllByRecursion (λ d. Precedes d e) es → Rises (es ++ e ∷ [])
+rising_with : (es : List Entity) (e : Entity) → Rises es → 0 < id_of e → AllByRecursion (λ d. Before d e) es → Rises (es ++ e ∷ [])
 rising_with [] e rising some h = (some, tt, tt)
-rising_with (d ∷ ds) e rising some h = (rising.0, all_with (Precedes d) ds e rising.1 h.0, rising_with ds e rising.2 some h.1)
+rising_with (d ∷ ds) e rising some h = (rising.0, all_with (Before d) ds e rising.1 h.0, rising_with ds e rising.2 some h.1)
 
 placed_rises : (before : List Entity) (object : Object) (e : Entity) → Rises before → Consistent object → placed before object ≡ Ok e → Rises (before ++ e ∷ [])
 placed_rises before object e rising told h =

@@ -48,10 +48,18 @@ in_order before (Ok object ∷ others) =
       | Err fault ↦ stops_at fault
     ]
 
--- The first object may stand before the second: its kind is no later one, and where both are of one kind it has the smaller id.
-abbrev pub Precedes : Entity → Entity → Type 0
-Precedes d e = (rank (kind_of d) ≤ rank (kind_of e)) × (kind_of d ≡ kind_of e → id_of d < id_of e)
+-- the kind and the id of an object
+abbrev pub key_of : Entity → EntityKind × ℕ
+key_of e = (kind_of e, id_of e)
 
--- Each id is above 0, and of any two objects the first may stand before the second.
+-- The first kind and id may stand before the second: the kind is no later one, and where both are of one kind the id is smaller.
+abbrev pub Precedes : EntityKind × ℕ → EntityKind × ℕ → Type 0
+Precedes a b = (rank a.0 ≤ rank b.0) × (a.0 ≡ b.0 → a.1 < b.1)
+
+-- Of any two items, by the kind and the id that they tell, the first may stand before the second.
+abbrev pub AreInOrder : {A : Type 0} → (A → EntityKind × ℕ) → List A → Type 0
+AreInOrder tells xs = AllPairs (λ a b. Precedes (tells a) (tells b)) xs
+
+-- Each id is above 0, and the objects are in order.
 abbrev pub IsRising : List Entity → Type 0
-IsRising es = All (λ e. 0 < id_of e) es × AllPairs Precedes es
+IsRising es = All (λ e. 0 < id_of e) es × AreInOrder key_of es
