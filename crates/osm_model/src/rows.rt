@@ -128,6 +128,7 @@ pub fn order_rows()
     ensures way_twice { input_fault (data_blob (part 3 (hex "08 05") ++ part 3 (hex "08 05"))) ≡ in_entity 0 (out_of_order 5 (pos 5)) }
     ensures way_of_a_blob_before { input_fault (data_blob (part 3 (hex "08 05")) ++ data_blob (part 3 (hex "08 05"))) ≡ in_entity 43 (out_of_order 5 (pos 5)) }
     ensures way_of_a_blob_long_before { input_fault (data_blob (part 3 (hex "08 05")) ++ header_alone ++ data_blob (part 3 (hex "08 05"))) ≡ in_entity 116 (out_of_order 5 (pos 5)) }
+    ensures third_way_falls { input_fault (data_blob (part 3 (hex "08 02") ++ part 3 (hex "08 05") ++ part 3 (hex "08 04"))) ≡ in_entity 0 (out_of_order 5 (pos 4)) }
     ensures relation_falls { input_fault (data_blob (part 4 (hex "08 05") ++ part 4 (hex "08 04"))) ≡ in_entity 0 (out_of_order 5 (pos 4)) }
     ensures id_zero { input_fault (with_byte 116 0x00) ≡ in_entity 73 (out_of_order 0 (pos 0)) }
     ensures way_below { input_fault (data_blob (part 3 (hex "08" ++ replicate 9 0xFF ++ hex "01"))) ≡ in_entity 0 (out_of_order 0 (negsuc 0)) }
