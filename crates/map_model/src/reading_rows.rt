@@ -4,7 +4,7 @@ ghost use Rattle.std.specs.Prelude.{◌≡◌, true, ◌++◌, [], ◌∷◌, ma
 ghost use Rattle.mf_base.specs.Spelling.{big_endian};
 ghost use Rattle.map_model.specs.Listed.{ShownTag, way};
 ghost use Rattle.map_model.specs.Header.{magic_word};
-ghost use Rattle.map_model.specs.HeaderReading.{HeaderKind, header_length, header_fault};
+ghost use Rattle.map_model.specs.HeaderReading.{HeaderKind, rect_of_bytes, header_length, header_fault};
 ghost use Rattle.map_model.specs.TileReading.{TileKind, read_tile_from};
 ghost use Rattle.map_model.specs.Listing.{ShowFault, tile_end, show, listing, poi_line, way_line, tile_text, show_fault_text};
 ghost use Rattle.map_model.specs.Samples.{valued_bench, outer_ring, inner_ring, eastward, at_place, world_corner, world_tile, to_origin, bench_tags, bench_map, bench_sub_file, empty_map, listed_bench, garden_tags, garden_tile, listed_garden, two_tiles, two_tiles_file, header_refused, tile_refused};
@@ -22,6 +22,7 @@ pub fn headers_read()
     ensures no_interval { header_fault 144 (set bench_map 90 0x00) ≡ Some (header_refused 90 HeaderKind.interval) }
     ensures base_16 { header_fault 144 (set bench_map 91 0x10) ≡ None }
     ensures base_17 { header_fault 144 (set bench_map 91 0x11) ≡ Some (header_refused 91 HeaderKind.interval) }
+    ensures sides { rect_of_bytes (0xFF ∷ 0xFF ∷ 0xFF ∷ 0xFF ∷ 0x00 ∷ 0x00 ∷ 0x00 ∷ 0x02 ∷ 0x00 ∷ 0x00 ∷ 0x00 ∷ 0x03 ∷ 0x00 ∷ 0x00 ∷ 0x01 ∷ 0x04 ∷ []) ≡ record { min_lat = negsuc 0; min_lon = pos 2; max_lat = pos 3; max_lon = pos 260 } }
     ensures longest { header_length 6000000 (magic_word ++ big_endian 4 5000000) ≡ Ok 5000000 }
     ensures too_long { header_length 6000000 (magic_word ++ big_endian 4 5000001) ≡ Err (header_refused 20 HeaderKind.size) }
 {}

@@ -10,7 +10,7 @@ ghost use Rattle.map_model.specs.Tiles.{interval_tiles, are_intervals, shown_zoo
 ghost use Rattle.map_model.specs.Layout.{coordinate_bytes};
 ghost use Rattle.map_model.specs.TileBytes.{poi_bytes, way_bytes, is_double, tile_bytes};
 ghost use Rattle.map_model.specs.SubFile.{water, index_bytes, sub_file_of, sub_file_size};
-ghost use Rattle.map_model.specs.Header.{head_flags, header_size, header_bytes, sub_files};
+ghost use Rattle.map_model.specs.Header.{box_bytes, head_flags, header_size, header_bytes, sub_files};
 ghost use Rattle.map_model.specs.MapFile.{limit_fault, map_file, tile_limit, sub_file_limit, shape_size, job_size, report, report_line};
 ghost use Rattle.map_model.specs.Samples.{zoom_range, numbered, zigzag, garden_tile, at_place, world_corner, world_tile, to_origin, bench, bench_with_value, way_of, area_of, garden, garden_bytes, eastward, outer_ring, inner_ring, lake, open_lake, lake_tile, middle_tile, content, settings_to, three_intervals, origin_box, origin_header, degree_box, bench_tags, bench_map, empty_map, bench_numbers, five_benches, late_benches};
 
@@ -125,6 +125,7 @@ pub fn sub_file_bytes()
 /// The header of the default intervals, without and with its optional fields.
 #[tactic(auto, unfolding(crate::proofs::Compute::compute))]
 pub fn headers()
+    ensures sides { box_bytes (record { min_lat = negsuc 0; min_lon = pos 2; max_lat = pos 3; max_lon = pos 260 }) ≡ 0xFF ∷ 0xFF ∷ 0xFF ∷ 0xFF ∷ 0x00 ∷ 0x00 ∷ 0x00 ∷ 0x02 ∷ 0x00 ∷ 0x00 ∷ 0x00 ∷ 0x03 ∷ 0x00 ∷ 0x00 ∷ 0x01 ∷ 0x04 ∷ [] }
     ensures flags { map head_flags (settings_to 7 ∷ record (settings_to 7) { start = Some origin } ∷ record (settings_to 7) { start_zoom = Some 12 } ∷ record (settings_to 7) { language = Some (codes "en") } ∷ record (settings_to 7) { comment = Some (codes "c") } ∷ record (settings_to 7) { created_by = Some (codes "d") } ∷ [])
         ≡ 0x00 ∷ 0x40 ∷ 0x20 ∷ 0x10 ∷ 0x08 ∷ 0x04 ∷ [] }
     ensures sizes { map (λ options. header_size (record (settings_to 7) { intervals = three_intervals; language = options }) bench_tags) (None ∷ Some (codes "en") ∷ []) ≡ 148 ∷ 151 ∷ [] }
