@@ -39,6 +39,7 @@ TileFault = FaultAt TileKind
 
 -- ---- numbers, texts, places
 
+-- an unsigned and a signed VBE number
 unfoldable pub number : List ℕ → Read TileKind ℕ
 number bytes = or_stop vbe bytes (with_rest bytes (unsigned_front bytes))
 
@@ -123,6 +124,7 @@ has_flag flags bit = flags / bit % 2 == 1
 
 -- ---- POI
 
+-- a POI in a tile of this corner, with tags of this list
 unfoldable pub poi_at : List (List ℕ) → Place → List ℕ → Read TileKind PoiFields
 poi_at tags corner bytes = do
   place ← place_from corner bytes
@@ -136,6 +138,7 @@ poi_at tags corner bytes = do
 
 -- ---- way
 
+-- a place, moved by a step
 abbrev pub moved : Place → Place → Place
 moved a s = record { lat = a.lat +ℤ s.lat; lon = a.lon +ℤ s.lon }
 
@@ -275,9 +278,11 @@ tile_fault tags tile bytes = fault_of (read_tile tags tile bytes)
 
 -- ---- the grammar
 
+-- a text: UTF-8, and a length that has a spelling
 abbrev pub IsText : List ℕ → Type 0
 IsText bytes = (length bytes < 2 ^ 63) × IsTrue (is_utf8 bytes)
 
+-- a place whose latitude and longitude are numbers of 32 bits
 abbrev pub IsInRange : Place → Type 0
 IsInRange p = IsTrue (is_signed_32 p.lat) × IsTrue (is_signed_32 p.lon)
 
