@@ -81,7 +81,7 @@ shape_size mapping entities =
     length (nodes_of entities) + sum_by (λ w. length w.refs) (ways_of entities) + sum_by (λ r. length r.members) (relations_of entities)
     + sum_by weight (candidates mapping entities)
 
--- besides, the tiles of all intervals, and over each member of each tile its weight
+-- the size of a job: besides, the tiles of all intervals, and over each member of each tile its weight
 unfoldable pub job_size : HeadSettings → Mapping → Rect → List Entity → ℕ
 job_size set mapping box entities =
     shape_size mapping entities + length (all_tiles set box) + sum_by (tile_weight (features mapping entities)) (all_tiles set box)

@@ -18,10 +18,11 @@ abbrev pub placed : {Kind X : Type 0} → ℕ → Result X (Stop Kind) → Resul
 placed total (Ok x) = Ok x
 placed total (Err e) = Err (record { at = total - e.left; kind = e.kind })
 
--- what a reader answers
+-- what a reader answers: a value and the bytes after it
 abbrev pub Read : Type 0 → Type 0 → Type 0
 Read Kind X = Result (X × List ℕ) (Stop Kind)
 
+-- the fault of the field that starts at these bytes
 abbrev pub stop : {Kind : Type 0} → Kind → List ℕ → Stop Kind
 stop kind bytes = record { kind = kind; left = length bytes }
 
@@ -29,7 +30,7 @@ stop kind bytes = record { kind = kind; left = length bytes }
 abbrev pub want : {Kind : Type 0} → Bool → Kind → List ℕ → Result (Unit {0}) (Stop Kind)
 want passes kind bytes = require passes (stop kind bytes)
 
--- a reading of another kind of fault, under this kind
+-- what is read, its fault told as this one
 abbrev pub or_stop : {E Kind X : Type 0} → Kind → List ℕ → Result X E → Result X (Stop Kind)
 or_stop kind bytes read = told_as (λ e. stop kind bytes) read
 
@@ -48,7 +49,7 @@ fixed_number short width bytes = do
   field ← fixed short width bytes
   Ok (big_number width field.0, field.1)
 
--- so many times the same
+-- so many values of one kind, one after another
 unfoldable pub times : {Kind X : Type 0} → ℕ → (List ℕ → Read Kind X) → List ℕ → Read Kind (List X)
 times zero read bytes = Ok ([], bytes)
 times (suc n) read bytes = do
@@ -56,7 +57,7 @@ times (suc n) read bytes = do
   others ← times n read first.1
   Ok (first.0 ∷ others.0, others.1)
 
--- once for each element of a list
+-- a value for each element of a list, one after another
 unfoldable pub each : {Kind C X : Type 0} → (C → List ℕ → Read Kind X) → List C → List ℕ → Read Kind (List X)
 each read [] bytes = Ok ([], bytes)
 each read (c ∷ cs) bytes = do

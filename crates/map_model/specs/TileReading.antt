@@ -23,21 +23,30 @@ use Rattle.mf_base.specs.Steps.{◌>>=◌}
 
 -- why a field of a tile has no spelling
 pub data TileKind : Type 0 where
+  -- a VBE number is misspelt or too wide
   vbe : TileKind
+  -- the bytes end in a field of fixed width
   short : TileKind
+  -- a tag id is not below the list's count
   tag : TileKind
+  -- a string goes past the end, or is no UTF-8
   text : TileKind
+  -- a coordinate or an elevation is outside 32 bits, or a layer is above 5
   range : TileKind
+  -- there is no data block, no ring, or a ring of fewer than two places
   points : TileKind
+  -- a way's fields do not take its data size
   size : TileKind
+  -- the POIs do not take the first-way offset
   offset : TileKind
+  -- bytes stand behind the last way
   left : TileKind
 
 -- the first field without a spelling, by its place in the tile
 abbrev pub TileFault : Type 0
 TileFault = FaultAt TileKind
 
--- ---- numbers, texts, places
+-- ---- Numbers, texts, places
 
 -- an unsigned and a signed VBE number
 unfoldable pub number : List ℕ → Read TileKind ℕ
@@ -113,12 +122,13 @@ kept_at tags id bytes = do
   value ← value_at (tag_kind (tag_at tags id)) bytes
   Ok (record { tag = id; value = value.0 }, value.1)
 
--- all tag ids, then the values in their order
+-- so many tags: all ids, then the values in their order
 unfoldable pub tags_at : List (List ℕ) → ℕ → List ℕ → Read TileKind (List Kept)
 tags_at tags count bytes = do
   ids ← times count (id_at tags) bytes
   each (kept_at tags) ids.0 ids.1
 
+-- the flag with this bit is set
 abbrev pub has_flag : ℕ → ℕ → Bool
 has_flag flags bit = flags / bit % 2 == 1
 
@@ -150,7 +160,7 @@ places_after double (suc n) before last bytes = do
   others ← places_after double n p.0 (step before p.0) p.1
   Ok (p.0 ∷ others.0, others.1)
 
--- two places at least, the first told by how far it is from the corner
+-- a ring: two places at least, the first told by how far it is from the corner
 unfoldable pub ring_at : Place → Bool → List ℕ → Read TileKind (Ring)
 ring_at corner double bytes = do
   n ← count_from 2 bytes
@@ -158,7 +168,7 @@ ring_at corner double bytes = do
   others ← places_after double (n.0 - 1) first.0 origin first.1
   Ok (first.0 ∷ others.0, others.1)
 
--- one ring at least
+-- a data block: one ring at least
 unfoldable pub block_at : Place → Bool → List ℕ → Read TileKind (Block)
 block_at corner double bytes = do
   n ← count_from 1 bytes
@@ -169,7 +179,7 @@ abbrev pub block_count_at : Bool → List ℕ → Read TileKind ℕ
 block_count_at true bytes = count_from 1 bytes
 block_count_at false bytes = Ok (1, bytes)
 
--- one data block at least
+-- the data blocks of a way: one at least
 unfoldable pub blocks_at : Place → Bool → Bool → List ℕ → Read TileKind (List Block)
 blocks_at corner counted double bytes = do
   n ← block_count_at counted bytes
@@ -200,6 +210,7 @@ label_and_blocks_at corner flags bytes = do
   blocks ← blocks_at corner (has_flag flags 0x08) (has_flag flags 0x04) numbers.1
   Ok ((label.0, blocks.0), blocks.1)
 
+-- the fields of a way behind its data size
 unfoldable pub way_body_at : List (List ℕ) → Place → List ℕ → Read TileKind WayFields
 way_body_at tags corner bytes = do
   bits ← fixed_number TileKind.short 2 bytes
@@ -227,7 +238,7 @@ way_body_at tags corner bytes = do
     rest.1,
   )
 
--- the fields take the data size that stands before them
+-- a way, whose fields take the data size that stands before them
 unfoldable pub way_at : List (List ℕ) → Place → List ℕ → Read TileKind WayFields
 way_at tags corner bytes = do
   told ← number bytes
@@ -244,10 +255,11 @@ counts_at bytes = do
   ways ← number pois.1
   Ok ((pois.0, ways.0), ways.1)
 
+-- the POIs and the ways of one zoom level
 abbrev pub level_of : List PoiFields × List WayFields → Level
 level_of parts = record { pois = parts.0; ways = parts.1 }
 
--- the zoom table, the first-way offset, the POIs, the ways, and nothing after them
+-- a tile: the zoom table, the first-way offset, the POIs, the ways, and nothing after them
 unfoldable pub levels_at : TagLists → Interval → Place → List ℕ → Result (List Level) (Stop TileKind)
 levels_at tags interval corner bytes = do
   counts ← times (length (zooms interval)) counts_at bytes
@@ -258,13 +270,14 @@ levels_at tags interval corner bytes = do
   nothing ← want (length ways.1 == 0) TileKind.left ways.1
   Ok (map level_of (zip pois.0 ways.0))
 
--- empty bytes are a tile without members
+-- the records of a tile; empty bytes are a tile without members
 abbrev pub shown_at : TagLists → Interval → Place → List ℕ → Result (List Listed) (Stop TileKind)
 shown_at tags interval corner [] = Ok []
 shown_at tags interval corner (b ∷ bytes) = do
   levels ← levels_at tags interval corner (b ∷ bytes)
   Ok (shown_levels tags interval levels)
 
+-- the records of a tile with this corner, or the first field without a spelling
 unfoldable pub read_tile_from : Place → TagLists → Interval → List ℕ → Result (List Listed) TileFault
 read_tile_from corner tags interval bytes = placed (length bytes) (shown_at tags interval corner bytes)
 
@@ -310,11 +323,11 @@ pub record IsPoi (tags : List (List ℕ)) (p : PoiFields) : Type 0 where
   pub house : IfSome p.house IsText
   pub height : IfSome p.height (λ n. IsTrue (is_signed_32 n))
 
--- two places at least
+-- a ring has two places at least
 abbrev pub IsRing : Ring → Type 0
 IsRing ring = (2 ≤ length ring) × (length ring < 2 ^ 63) × AllByRecursion IsInRange ring
 
--- one ring at least
+-- a data block has one ring at least
 abbrev pub IsBlock : Block → Type 0
 IsBlock rings = (1 ≤ length rings) × (length rings < 2 ^ 63) × AllByRecursion IsRing rings
 
@@ -333,6 +346,7 @@ pub record IsWay (tags : List (List ℕ)) (w : WayFields) : Type 0 where
   pub counted : (1 ≤ length w.blocks) × (length w.blocks < 2 ^ 63)
   pub blocks : AllByRecursion IsBlock w.blocks
 
+-- what one zoom level can tell
 pub record IsLevel (tags : TagLists) (level : Level) : Type 0 where
   pub pois : AllByRecursion (IsPoi tags.poi) level.pois
   pub ways : AllByRecursion (IsWay tags.way) level.ways
