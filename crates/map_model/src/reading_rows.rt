@@ -6,7 +6,7 @@ ghost use Rattle.map_model.specs.Listed.{ShownTag, way};
 ghost use Rattle.map_model.specs.Header.{magic_word};
 ghost use Rattle.map_model.specs.HeaderReading.{HeaderKind, rect_of_bytes, header_length, header_fault};
 ghost use Rattle.map_model.specs.TileReading.{TileKind, read_tile_from};
-ghost use Rattle.map_model.specs.Listing.{ShowFault, tile_end, show, listing, poi_line, way_line, tile_text, show_fault_text};
+ghost use Rattle.map_model.specs.Listing.{ShowFault, quoted, tile_end, show, listing, poi_line, way_line, tile_text, show_fault_text};
 ghost use Rattle.map_model.specs.Samples.{valued_bench, outer_ring, inner_ring, eastward, at_place, world_corner, world_tile, to_origin, bench_tags, bench_map, bench_sub_file, empty_map, listed_bench, garden_tags, garden_tile, listed_garden, two_tiles, two_tiles_file, header_refused, tile_refused};
 
 /// The first fault of a header, by the place of its field.
@@ -83,6 +83,7 @@ pub fn texts()
         ≡ codes "tile 1 2 3 water 1 pois 0 ways 1" ++ 10 ∷ codes "way zoom 17 layer 0 bits 0220 tags \"leisure=garden\" label 5,10 outer 0,0 0,20 10,20 10,0 0,0" ++ 10 ∷ [] }
     ensures blocks { way_line (record (listed_garden 0xABCD) { tags = ShownTag.number (codes "width") (negsuc 2) ∷ ShownTag.text (codes "a") (codes "b") ∷ []; name = Some (codes "N"); house = Some (codes "7"); reference = Some (codes "A1"); label = None; blocks = (outer_ring ∷ inner_ring ∷ []) ∷ (take 2 eastward ∷ []) ∷ [] })
         ≡ codes "way zoom 17 layer 0 bits ABCD tags \"width=-3\" \"a=b\" name \"N\" house \"7\" ref \"A1\" outer 0,0 0,20 20,10 0,0 inner 3,8 3,12 6,10 3,8 outer 0,0 0,1000" ++ 10 ∷ [] }
+    ensures in_quotes { quoted (31 ∷ 32 ∷ 126 ∷ 127 ∷ 128 ∷ []) ≡ codes "\"\\x1F ~\\x7F" ++ 128 ∷ 34 ∷ [] }
     ensures poi { poi_line (record { zoom = 5; layer = negsuc 0; place = at_place (negsuc 0) (pos 7); tags = []; name = Some (34 ∷ 92 ∷ 10 ∷ 127 ∷ 195 ∷ 164 ∷ []); house = Some (codes "1"); height = Some (negsuc 11) })
         ≡ codes "poi zoom 5 layer -1 at -1,7 tags name \"\\x22\\x5C\\x0A\\x7F" ++ 195 ∷ 164 ∷ codes "\" house \"1\" ele -12" ++ 10 ∷ [] }
     ensures garden { way_line (listed_garden 0x0220) ≡ codes "way zoom 17 layer 0 bits 0220 tags \"leisure=garden\" label 5,10 outer 0,0 0,20 10,20 10,0 0,0" ++ 10 ∷ [] }
