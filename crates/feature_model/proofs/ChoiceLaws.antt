@@ -10,9 +10,9 @@ use Rattle.mf_base.specs.Texts.{Text}
 use Rattle.mf_base.specs.Tags.{Tags, value_of, present_text, text_of}
 use Rattle.mf_base.specs.Numbers.{whole_number}
 use Rattle.mf_base.specs.Ranges.{within, lies_within}
-use Rattle.feature_model.specs.Mapping.{Entry, ValueKind, KeptValue, value_kind, read_by, kept_by}
+use Rattle.feature_model.specs.Mapping.{IsOfKind, Entry, ValueKind, KeptValue, value_kind, read_by, kept_by}
 use Rattle.feature_model.specs.Choice.{Kept, Match, match_of, matches, layer_of, Choice, choice_of, choice}
-use Rattle.feature_model.specs.Proper.{IsPresent, IsOfKind, IsKept, AreRising, IsLayer}
+use Rattle.feature_model.specs.Proper.{IsPresent, IsKept, AreRising, IsLayer}
 use Rattle.feature_model.proofs.ListLemmas.{all-filter_map, any-all, all-map, all-take, length-take_most, all-numbered}
 
 -- Texts.
@@ -41,8 +41,8 @@ text_of-present key tags = by_value (value_of key tags)
 
 -- Values of a kind.
 
-plain_is : (b : Bool) (v : KeptValue) → (if b then Some KeptValue.plain else None) ≡ Some v → IsOfKind ValueKind.plain v
-plain_is true v e = subst (IsOfKind ValueKind.plain) (same_Some KeptValue.plain v e) tt
+plain_is : (b : Bool) (v : KeptValue) → (if b then Some KeptValue.plain else None) ≡ Some v → IsOfKind IsPresent ValueKind.plain v
+plain_is true v e = subst (IsOfKind IsPresent ValueKind.plain) (same_Some KeptValue.plain v e) tt
 plain_is false v e = absurd (cc e)
 
 within-is : (low high z found : ℤ) → within low high z ≡ Some found → IsTrue (lies_within low high found)
@@ -52,31 +52,31 @@ within-is low high z found e = by_test (cases_Bool (lies_within low high z))
     by_test (inl good) = subst (λ f. IsTrue (lies_within low high f)) (same_Some z found (rw good at e)) good
     by_test (inr bad) = absurd (cc (rw bad at e))
 
-number_is : (kind : ValueKind) (make : ℤ → KeptValue) (low high : ℤ) (o : Option ℤ) (v : KeptValue) → ((z : ℤ) → IsTrue (lies_within low high z) → IsOfKind kind (make z))
-    → option_map make (option_and_then (within low high) o) ≡ Some v → IsOfKind kind v
+number_is : (kind : ValueKind) (make : ℤ → KeptValue) (low high : ℤ) (o : Option ℤ) (v : KeptValue) → ((z : ℤ) → IsTrue (lies_within low high z) → IsOfKind IsPresent kind (make z))
+    → option_map make (option_and_then (within low high) o) ≡ Some v → IsOfKind IsPresent kind v
 number_is kind make low high None v fine e = absurd (cc e)
 number_is kind make low high (Some z) v fine e = by_value (within low high z) refl e
   where
-    by_value : (found : Option ℤ) → within low high z ≡ found → option_map make found ≡ Some v → IsOfKind kind v
+    by_value : (found : Option ℤ) → within low high z ≡ found → option_map make found ≡ Some v → IsOfKind IsPresent kind v
     by_value None same e = absurd (cc e)
-    by_value (Some f) same e = subst (IsOfKind kind) (same_Some (make f) v e) (fine f (within-is low high z f same))
+    by_value (Some f) same e = subst (IsOfKind IsPresent kind) (same_Some (make f) v e) (fine f (within-is low high z f same))
 
-text_is : (t : Text) (o : Option Text) (v : KeptValue) → present_text t ≡ o → option_map KeptValue.text o ≡ Some v → IsOfKind ValueKind.text v
+text_is : (t : Text) (o : Option Text) (v : KeptValue) → present_text t ≡ o → option_map KeptValue.text o ≡ Some v → IsOfKind IsPresent ValueKind.text v
 text_is t None v same e = absurd (cc e)
-text_is t (Some u) v same e = subst (IsOfKind ValueKind.text) (same_Some (KeptValue.text u) v e) (present_text-is t u same)
+text_is t (Some u) v same e = subst (IsOfKind IsPresent ValueKind.text) (same_Some (KeptValue.text u) v e) (present_text-is t u same)
 
-read_by-is : (kind : ValueKind) (wanted value : Text) (v : KeptValue) → read_by kind wanted value ≡ Some v → IsOfKind kind v
+read_by-is : (kind : ValueKind) (wanted value : Text) (v : KeptValue) → read_by kind wanted value ≡ Some v → IsOfKind IsPresent kind v
 read_by-is ValueKind.plain wanted value v e = plain_is _ v e
 read_by-is ValueKind.byte wanted value v e = number_is ValueKind.byte KeptValue.byte (negsuc 127) (pos 127) (whole_number value) v (λ z h. h) e
 read_by-is ValueKind.short wanted value v e = number_is ValueKind.short KeptValue.short (negsuc 32767) (pos 32767) (whole_number value) v (λ z h. h) e
 read_by-is ValueKind.int wanted value v e = number_is ValueKind.int KeptValue.int (negsuc 2147483647) (pos 2147483647) (whole_number value) v (λ z h. h) e
 read_by-is ValueKind.text wanted value v e = text_is value (present_text value) v refl e
 
-kept_by-is : (entry : Entry) (tags : Tags) (v : KeptValue) → kept_by entry tags ≡ Some v → IsOfKind (value_kind entry.value) v
+kept_by-is : (entry : Entry) (tags : Tags) (v : KeptValue) → kept_by entry tags ≡ Some v → IsOfKind IsPresent (value_kind entry.value) v
 unfolding kept_by
 kept_by-is entry tags v e = by_value (value_of entry.key tags) e
   where
-    by_value : (o : Option Text) → option_and_then (read_by (value_kind entry.value) entry.value) o ≡ Some v → IsOfKind (value_kind entry.value) v
+    by_value : (o : Option Text) → option_and_then (read_by (value_kind entry.value) entry.value) o ≡ Some v → IsOfKind IsPresent (value_kind entry.value) v
     by_value None e = absurd (cc e)
     by_value (Some t) e = read_by-is (value_kind entry.value) entry.value t v e
 
@@ -86,7 +86,7 @@ kept_by-is entry tags v e = by_value (value_of entry.key tags) e
 record IsMatch (tags : Tags) (numbered : ℕ × Entry) (m : Match) : Type 0 where
   id : numbered.0 ≡ m.kept.tag
   entry : numbered.1 ≡ m.entry
-  value : IsOfKind (value_kind numbered.1.value) m.kept.value
+  value : IsOfKind IsPresent (value_kind numbered.1.value) m.kept.value
 
 match_of-is : (tags : Tags) (numbered : ℕ × Entry) (m : Match) → match_of tags numbered ≡ Some m → IsMatch tags numbered m
 match_of-is tags numbered m e = by_value (kept_by numbered.1 tags) refl e
@@ -106,8 +106,8 @@ match_of-good : (P : Entry → Type 0) (entries : List Entry) (tags : Tags) (num
 match_of-good P entries tags numbered m there e =
     let is = match_of-is tags numbered m e in
     let low = slice_get_within entries numbered.0 numbered.1 there.0 in
-    let kinds : IfSome (slice_get entries numbered.0) (λ (e : Entry). IsOfKind (value_kind e.value) m.kept.value) = subst (λ (o : Option Entry). IfSome o (λ (e : Entry). IsOfKind (value_kind e.value) m.kept.value)) (sym there.0) is.value in
-    (subst (λ n. (n < length entries) × IfSome (slice_get entries n) (λ (e : Entry). IsOfKind (value_kind e.value) m.kept.value)) is.id (low, kinds), subst P is.entry there.1)
+    let kinds : IfSome (slice_get entries numbered.0) (λ (e : Entry). IsOfKind IsPresent (value_kind e.value) m.kept.value) = subst (λ (o : Option Entry). IfSome o (λ (e : Entry). IsOfKind IsPresent (value_kind e.value) m.kept.value)) (sym there.0) is.value in
+    (subst (λ n. (n < length entries) × IfSome (slice_get entries n) (λ (e : Entry). IsOfKind IsPresent (value_kind e.value) m.kept.value)) is.id (low, kinds), subst P is.entry there.1)
 
 matches-good : (P : Entry → Type 0) (entries : List Entry) (tags : Tags) → AllByRecursion P entries → AllByRecursion (IsGood P entries) (matches entries tags)
 unfolding matches

@@ -17,7 +17,7 @@ use Rattle.mf_base.specs.declared.tile.TilePlace.{TilePlace}
 use Rattle.mf_base.proofs.OneSpelling.{length-vbe-positive}
 use Rattle.feature_model.specs.Features.{Block, Feature}
 use Rattle.feature_model.specs.Inside.{Ring}
-use Rattle.feature_model.specs.Mapping.{KeptValue, ValueKind}
+use Rattle.feature_model.specs.Mapping.{IsOfKind, KeptValue, ValueKind}
 use Rattle.feature_model.specs.Choice.{Kept}
 use Rattle.map_model.specs.Numbers.{above_zero}
 use Rattle.map_model.specs.Layout.{PoiFields, WayFields, Level, optional, flag, layer_byte, value_bytes, tag_bytes, step, step_bytes, poi_flags, poi_fields_bytes, way_flags, first_of_blocks, way_body_bytes, way_fields_bytes, sized, ring_bytes, block_bytes, level_count_bytes, levels_bytes}
@@ -27,7 +27,7 @@ use Rattle.map_model.proofs.CornerLemmas.{tile_corner-in_range}
 use Rattle.map_model.proofs.LevelLemmas.{levels-shown}
 use Rattle.map_model.specs.Listed.{TagLists, Listed, listed, shown_levels, tag_kind, tag_at}
 use Rattle.map_model.specs.Reader.{Read, fixed_number, times, each, where_set}
-use Rattle.map_model.specs.TileReading.{TileKind, number, text_at, ranged, layer_at, id_at, value_at, kept_at, tags_at, has_flag, poi_at, block_at, block_count_at, blocks_at, first_place_at, two_signed, label_and_blocks_at, way_body_at, way_at, counts_at, level_of, levels_at, read_tile_from, read_tile, ReadsTile, IsLevel, SpellsLevels, IsText, IsInRange, IsOfKind, IsKeptOf, IsPoi, IsBlock, IsWay}
+use Rattle.map_model.specs.TileReading.{TileKind, number, text_at, ranged, layer_at, id_at, value_at, kept_at, tags_at, has_flag, poi_at, block_at, block_count_at, blocks_at, first_place_at, two_signed, label_and_blocks_at, way_body_at, way_at, counts_at, level_of, levels_at, read_tile_from, read_tile, ReadsTile, IsLevel, SpellsLevels, IsText, IsInRange, IsKeptOf, IsPoi, IsBlock, IsWay}
 use Rattle.map_model.proofs.SizeLemmas.{length-big_endian}
 use Rattle.map_model.proofs.PlacesAgain.{Again, number-again, signed-again, count_from-again, text_at-again, ranged-again, place_from-again, block_at-again, times-again, and-true, after_first, coordinates-split, nat_abs-step}
 
@@ -84,7 +84,7 @@ layer_at-again layer count rest h few =
 signed_fits : (half n : ℕ) → n ≤ half → n < suc half
 signed_fits half n le = omega (arith, le)
 
-pub value_at-again : (kind : ValueKind) (value : KeptValue) → IsOfKind kind value → Again (value_at kind) (value_bytes value) value
+pub value_at-again : (kind : ValueKind) (value : KeptValue) → IsOfKind IsText kind value → Again (value_at kind) (value_bytes value) value
 unfolding Again
 value_at-again ValueKind.plain KeptValue.plain h rest = refl
 value_at-again ValueKind.byte (KeptValue.byte (pos n)) h rest =

@@ -11,12 +11,12 @@ use Rattle.mf_base.specs.Spelling.{IsBytes, vbe_unsigned, vbe_signed, string, bi
 use Rattle.mf_base.specs.declared.place.Place.{Place}
 use Rattle.mf_base.specs.Ranges.{lies_within}
 use Rattle.mf_base.proofs.StepLaws.{bind_ok, require_ok, ok_is}
-use Rattle.feature_model.specs.Mapping.{KeptValue, ValueKind}
+use Rattle.feature_model.specs.Mapping.{IsOfKind, KeptValue, ValueKind}
 use Rattle.feature_model.specs.Choice.{Kept}
 use Rattle.map_model.specs.Layout.{PoiFields, flag, layer_byte, value_bytes, tag_bytes, poi_flags, poi_fields_bytes}
 use Rattle.map_model.specs.Listed.{tag_kind, tag_at}
 use Rattle.map_model.specs.Reader.{fixed_number}
-use Rattle.map_model.specs.TileReading.{TileKind, text_at, ranged, layer_at, id_at, value_at, kept_at, tags_at, has_flag, poi_at, IsText, IsOfKind, IsKeptOf, IsPoi}
+use Rattle.map_model.specs.TileReading.{TileKind, text_at, ranged, layer_at, id_at, value_at, kept_at, tags_at, has_flag, poi_at, IsText, IsKeptOf, IsPoi}
 use Rattle.map_model.proofs.ReaderFound.{Takes, IsFound, Finds, nothing, then, fixed_number-found, times-found, each-found, where_set-found}
 use Rattle.map_model.proofs.PlacesFound.{IsSigned32, number-found, text_at-found, ranged-found, place_from-found}
 
@@ -73,27 +73,27 @@ signed_32-within n fits = elim (cases_lt n 2147483648) [
   | inr high ↦ rw (le-ltb n 2147483648 high, le-leb (4294967296 - suc n) 2147483647 (omega (arith, high))) refl
 ]
 
-pub value_at-found : (kind : ValueKind) → Finds (value_at kind) value_bytes (IsOfKind kind)
-value_at-found ValueKind.plain bytes r small e = subst (IsFound value_bytes (IsOfKind ValueKind.plain) bytes) (ok_is (KeptValue.plain, bytes) r e) (nothing bytes small, tt)
+pub value_at-found : (kind : ValueKind) → Finds (value_at kind) value_bytes (IsOfKind IsText kind)
+value_at-found ValueKind.plain bytes r small e = subst (IsFound value_bytes (IsOfKind IsText ValueKind.plain) bytes) (ok_is (KeptValue.plain, bytes) r e) (nothing bytes small, tt)
 value_at-found ValueKind.byte bytes r small e =
     let n = bind_ok _ _ r e in
     let found = fixed_number-found TileKind.short 1 bytes n.0 small n.1 in
-    subst (IsFound value_bytes (IsOfKind ValueKind.byte) bytes) (ok_is (KeptValue.byte (cast_signed w8 n.0.0), n.0.1) r n.2)
+    subst (IsFound value_bytes (IsOfKind IsText ValueKind.byte) bytes) (ok_is (KeptValue.byte (cast_signed w8 n.0.0), n.0.1) r n.2)
     (subst (λ m. Takes bytes (big_endian 1 m) n.0.1) (sym (of_z-to_z w8 n.0.0 found.1)) found.0, signed_8 n.0.0 found.1)
 value_at-found ValueKind.short bytes r small e =
     let n = bind_ok _ _ r e in
     let found = fixed_number-found TileKind.short 2 bytes n.0 small n.1 in
-    subst (IsFound value_bytes (IsOfKind ValueKind.short) bytes) (ok_is (KeptValue.short (cast_signed w16 n.0.0), n.0.1) r n.2)
+    subst (IsFound value_bytes (IsOfKind IsText ValueKind.short) bytes) (ok_is (KeptValue.short (cast_signed w16 n.0.0), n.0.1) r n.2)
     (subst (λ m. Takes bytes (big_endian 2 m) n.0.1) (sym (of_z-to_z w16 n.0.0 found.1)) found.0, signed_16 n.0.0 found.1)
 value_at-found ValueKind.int bytes r small e =
     let n = bind_ok _ _ r e in
     let found = fixed_number-found TileKind.short 4 bytes n.0 small n.1 in
-    subst (IsFound value_bytes (IsOfKind ValueKind.int) bytes) (ok_is (KeptValue.int (cast_signed w32 n.0.0), n.0.1) r n.2)
+    subst (IsFound value_bytes (IsOfKind IsText ValueKind.int) bytes) (ok_is (KeptValue.int (cast_signed w32 n.0.0), n.0.1) r n.2)
     (subst (λ m. Takes bytes (big_endian 4 m) n.0.1) (sym (of_z-to_z w32 n.0.0 found.1)) found.0, signed_32-within n.0.0 found.1)
 value_at-found ValueKind.text bytes r small e =
     let t = bind_ok _ _ r e in
     let found = text_at-found bytes t.0 small t.1 in
-    subst (IsFound value_bytes (IsOfKind ValueKind.text) bytes) (ok_is (KeptValue.text t.0.0, t.0.1) r t.2) found
+    subst (IsFound value_bytes (IsOfKind IsText ValueKind.text) bytes) (ok_is (KeptValue.text t.0.0, t.0.1) r t.2) found
 
 -- a number of a tag in this list
 abbrev pub IsId : List (List ℕ) → ℕ → Type 0
@@ -109,7 +109,7 @@ id_at-found tags bytes r small e =
 
 -- what is kept has this id
 abbrev pub IsKeptAs : List (List ℕ) → ℕ → Kept → Type 0
-IsKeptAs tags id k = (k.tag ≡ id) × IsOfKind (tag_kind (tag_at tags id)) k.value
+IsKeptAs tags id k = (k.tag ≡ id) × IsOfKind IsText (tag_kind (tag_at tags id)) k.value
 
 kept_at-found : (tags : List (List ℕ)) (id : ℕ) → Finds (kept_at tags id) (λ k. value_bytes k.value) (IsKeptAs tags id)
 kept_at-found tags id bytes r small e =
@@ -133,7 +133,7 @@ are_kept tags (id ∷ ids) (k ∷ kept) known same =
     record {
       spelt = (λ i. vbe_unsigned (tag i) ++ others.spelt i);
       many = ap suc others.many;
-      each = (subst (λ m. (m < length tags) × (m < 2 ^ 63) × IsOfKind (tag_kind (tag_at tags m)) k.value) tag (known.0.0, known.0.1, same.0.1), others.each);
+      each = (subst (λ m. (m < length tags) × (m < 2 ^ 63) × IsOfKind IsText (tag_kind (tag_at tags m)) k.value) tag (known.0.0, known.0.1, same.0.1), others.each);
     }
 
 -- the ids, then the values

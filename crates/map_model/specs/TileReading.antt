@@ -1,7 +1,7 @@
 -- Reading a tile, with its first fault: Mapsforge map format 5, on tile header, POIs and ways; the faults are this project's profile.
 use Rattle.feature_model.specs.Features.{Block}
 use Rattle.feature_model.specs.Inside.{Ring}
-use Rattle.std.specs.Prelude.{◌≡◌, ℕ, zero, suc, ◌+◌, ◌-◌, ◌/◌, ◌%◌, ◌^◌, ◌<◌, ◌≤◌, nat_lt, nat_le, ◌==◌, if◌then◌else◌, Bool, true, false, IsTrue, ℤ, pos, negsuc, ◌+ℤ◌, ◌-ℤ◌, List, [], ◌∷◌, map, zip, length, take, drop, Option, IfSome, Result, Ok, ⊤}
+use Rattle.std.specs.Prelude.{◌≡◌, ℕ, zero, suc, ◌+◌, ◌-◌, ◌/◌, ◌%◌, ◌^◌, ◌<◌, ◌≤◌, nat_lt, nat_le, ◌==◌, if◌then◌else◌, Bool, true, false, IsTrue, ℤ, pos, negsuc, ◌+ℤ◌, ◌-ℤ◌, List, [], ◌∷◌, map, zip, length, take, drop, Option, IfSome, Result, Ok}
 use Rattle.std.specs.List.{AllByRecursion}
 use Rattle.std.specs.Str.{is_utf8}
 use Rattle.std.specs.Int.{w8, w16, w32, cast_signed}
@@ -9,7 +9,7 @@ use Rattle.mf_base.specs.declared.place.Place.{Place}
 use Rattle.mf_base.specs.declared.tile.Interval.{Interval}
 use Rattle.mf_base.specs.declared.tile.TilePlace.{TilePlace}
 use Rattle.mf_base.specs.NumberReading.{unsigned_front, signed_front}
-use Rattle.feature_model.specs.Mapping.{KeptValue}
+use Rattle.feature_model.specs.Mapping.{IsOfKind, KeptValue}
 use Rattle.feature_model.specs.Choice.{Kept}
 use Rattle.mf_base.specs.Ranges.{is_signed_32, lies_within}
 use Rattle.mf_base.specs.Steps.{fault_of}
@@ -17,7 +17,7 @@ use Rattle.map_model.specs.Tiles.{origin, zooms}
 use Rattle.map_model.specs.Layout.{PoiFields, WayFields, Level, step, levels_bytes}
 use Rattle.map_model.specs.TileBytes.{tile_corner}
 use Rattle.map_model.specs.Listed.{TagLists, Listed, tag_kind, tag_at, shown_levels}
-use Rattle.feature_model.specs.Mapping.{ValueKind}
+use Rattle.feature_model.specs.Mapping.{IsOfKind, ValueKind}
 use Rattle.map_model.specs.Reader.{Stop, FaultAt, placed, Read, want, or_stop, with_rest, fixed_number, times, each, where_set}
 use Rattle.mf_base.specs.Steps.{◌>>=◌}
 
@@ -299,18 +299,9 @@ IsText bytes = (length bytes < 2 ^ 63) × IsTrue (is_utf8 bytes)
 abbrev pub IsInRange : Place → Type 0
 IsInRange p = IsTrue (is_signed_32 p.lat) × IsTrue (is_signed_32 p.lon)
 
--- a value of a tag of this kind
-abbrev pub IsOfKind : ValueKind → KeptValue → Type 0
-IsOfKind ValueKind.plain KeptValue.plain = ⊤
-IsOfKind ValueKind.byte (KeptValue.byte n) = IsTrue (lies_within (negsuc 127) (pos 127) n)
-IsOfKind ValueKind.short (KeptValue.short n) = IsTrue (lies_within (negsuc 32767) (pos 32767) n)
-IsOfKind ValueKind.int (KeptValue.int n) = IsTrue (is_signed_32 n)
-IsOfKind ValueKind.text (KeptValue.text bytes) = IsText bytes
-IsOfKind _ _ = ⊥
-
 -- a tag of the list, with a value of its kind
 abbrev pub IsKeptOf : List (List ℕ) → Kept → Type 0
-IsKeptOf tags k = (k.tag < length tags) × (k.tag < 2 ^ 63) × IsOfKind (tag_kind (tag_at tags k.tag)) k.value
+IsKeptOf tags k = (k.tag < length tags) × (k.tag < 2 ^ 63) × IsOfKind IsText (tag_kind (tag_at tags k.tag)) k.value
 
 -- what a POI can tell: tags in any order, and unnamed flag bits
 pub record IsPoi (tags : List (List ℕ)) (p : PoiFields) : Type 0 where
