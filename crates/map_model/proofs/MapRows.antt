@@ -2,6 +2,9 @@
 use Rattle.std.proofs.Common.{◌≡◌, ◌+◌, [], ◌∷◌, ◌++◌, length, refl, ap, ◌∙◌, map, set, drop, true, false, None, Some}
 use Rattle.std.specs.Prelude.{replicate, codes}
 use Rattle.std.specs.Option.{option_or}
+use Rattle.osm_model.specs.Input.{input_entities, known_box}
+use Rattle.osm_model.specs.Samples as extracts
+use Rattle.osm_model.proofs.Compute as input
 use Rattle.feature_model.specs.Features.{features}
 use Rattle.feature_model.specs.Weights.{LimitFault}
 use Rattle.feature_model.specs.Samples.{benches, bench_with, paths, path, node_at, way_of, at, forests, forest_of, outer, member_of}
@@ -31,6 +34,17 @@ pub one_bench : map_file (settings_to 7) benches degree_box (bench_with []) ≡ 
 unfolding map_file map_of
 one_bench = ap (map_of (settings_to 7) bench_tags degree_box) one ∙ ap (map_of_contents (settings_to 7) bench_tags degree_box) bench_contents ∙ spelled
 
+bench_entities : input_entities extracts.one_bench ≡ bench_with []
+unfolding input.compute
+bench_entities = refl
+
+bench_box : known_box None extracts.one_bench ≡ Some degree_box
+unfolding input.compute
+bench_box = refl
+
+pub one_bench_extract : (known_box None extracts.one_bench ≡ Some degree_box) × (map_file (settings_to 7) benches degree_box (input_entities extracts.one_bench) ≡ bench_map)
+one_bench_extract = (bench_box, ap (map_file (settings_to 7) benches degree_box) bench_entities ∙ one_bench)
+
 empty : map_of_contents (settings_to 7) bench_tags degree_box ((content false [] ∷ []) ∷ []) ≡ empty_map
 unfolding compute
 empty = refl
@@ -55,7 +69,7 @@ pub garden_bytes : tile_bytes (world_tile 21) (record garden { coast = true } �
 unfolding compute
 garden_bytes = world_bytes 21 (record garden { coast = true }) []
 
-pub ruleset map_rows = (one_bench, header_alone, zoom_above_maximum, at_the_maximum, third_interval, garden_bytes)
+pub ruleset map_rows = (one_bench, one_bench_extract, header_alone, zoom_above_maximum, at_the_maximum, third_interval, garden_bytes)
 
 -- ---- reports
 

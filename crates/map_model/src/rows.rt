@@ -2,6 +2,8 @@
 
 ghost use Rattle.std.specs.Prelude.{◌≡◌, set, ◌+◌, ◌++◌, [], ◌∷◌, map, length, take, drop, replicate, Some, None, true, false, pos, negsuc, codes};
 ghost use Rattle.mf_base.specs.declared.kind.EntityKind.{EntityKind};
+ghost use Rattle.osm_model.specs.Input.{input_entities, known_box};
+ghost use Rattle.osm_model.specs.Samples as extracts;
 ghost use Rattle.feature_model.specs.Mapping.{KeptValue};
 ghost use Rattle.feature_model.specs.Weights.{LimitFault};
 ghost use Rattle.feature_model.specs.Samples.{benches, bench_with, paths, path, node_at, way_of as way_through, at, forests, forest_of, outer, member_of};
@@ -140,6 +142,7 @@ pub fn headers()
 pub fn maps()
     ensures one_bench { map_file (settings_to 7) benches degree_box (bench_with []) ≡ bench_map }
     ensures one_bench_length { length bench_map ≡ 144 }
+    ensures one_bench_extract { (known_box None extracts.one_bench ≡ Some degree_box) × (map_file (settings_to 7) benches degree_box (input_entities extracts.one_bench) ≡ bench_map) }
     ensures header_alone { map_file (settings_to 7) benches degree_box [] ≡ empty_map }
     ensures header_alone_length { length empty_map ≡ 115 }
     ensures zoom_above_maximum { map_file (settings_to 7) late_benches degree_box (bench_with []) ≡ empty_map }
