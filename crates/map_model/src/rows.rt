@@ -7,7 +7,7 @@ ghost use Rattle.osm_model.specs.Samples as extracts;
 ghost use Rattle.feature_model.specs.Mapping.{KeptValue};
 ghost use Rattle.feature_model.specs.Weights.{LimitFault};
 ghost use Rattle.feature_model.specs.Samples.{benches, bench_with, paths, path, node_at, way_of as way_through, at, forests, forest_of, outer, member_of};
-ghost use Rattle.map_model.specs.Mercator.{raw_lat, row, column, edge_lat, corner, corner_lat};
+ghost use Rattle.map_model.specs.Mercator.{root_of_scale, raw_lat, row, column, edge_lat, corner, corner_lat};
 ghost use Rattle.map_model.specs.Tiles.{interval_tiles, are_intervals, shown_zoom, in_order, origin, rect_of_places, tile_rect, tiles_of, entry_place, members, rect_bits, label_place};
 ghost use Rattle.map_model.specs.Layout.{coordinate_bytes};
 ghost use Rattle.map_model.specs.TileBytes.{poi_bytes, way_bytes, is_double, tile_bytes};
@@ -19,6 +19,7 @@ ghost use Rattle.map_model.specs.Samples.{zoom_range, numbered, zigzag, garden_t
 /// Corners and edges near the pole, and the columns.
 #[tactic(auto, unfolding(crate::proofs::Compute::latitudes))]
 pub fn corners()
+    ensures root { root_of_scale 1 ≡ 207879576350761909 }
     ensures north { raw_lat 131072 ≡ 85051128 }
     ensures zoom_2 { raw_lat 65536 ≡ 66513260 }
     ensures zoom_3 { raw_lat 98304 ≡ 79171334 }
