@@ -1,4 +1,4 @@
--- Reading a tile, with its first fault: Mapsforge map format 5, on tile header, POIs and ways; the faults are this project's profile.
+-- Reading a tile, with its first fault: Mapsforge Specification, Binary Map File Format, version 5, on tile header, POIs and ways; the faults are this project's profile.
 use Rattle.feature_model.specs.Features.{Block}
 use Rattle.feature_model.specs.Inside.{Ring}
 use Rattle.std.specs.Prelude.{◌≡◌, ℕ, zero, suc, ◌+◌, ◌-◌, ◌/◌, ◌%◌, ◌^◌, ◌<◌, ◌≤◌, nat_lt, nat_le, ◌==◌, if◌then◌else◌, Bool, true, false, IsTrue, ℤ, pos, negsuc, ◌+ℤ◌, ◌-ℤ◌, List, [], ◌∷◌, map, zip, length, take, drop, Option, IfSome, Result, Ok}

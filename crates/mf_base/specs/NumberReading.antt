@@ -1,4 +1,4 @@
--- The number that some bytes begin with and how many bytes it takes, or the first cause why there is none: Mapsforge map format 5, on variable byte encoding; Protocol Buffers, "Encoding", on base 128 varints. That a VBE number has its shortest spelling is this project's profile.
+-- The number that some bytes begin with and how many bytes it takes, or the first cause why there is none: Mapsforge Specification, Binary Map File Format, version 5, on variable byte encoding; Protocol Buffers, "Encoding", on base 128 varints. That a VBE number has its shortest spelling is this project's profile.
 use Rattle.std.specs.Prelude.{ℕ, zero, suc, ◌*◌, ◌+◌, ◌/◌, ◌%◌, ◌^◌, Bool, ◌&&◌, ◌||◌, ◌==◌, nat_lt, nat_le, List, [], ◌∷◌, length, Result, Ok, ℤ, pos, neg_ℤ}
 use Rattle.mf_base.specs.declared.number.VbeFault.{VbeFault}
 use Rattle.mf_base.specs.declared.number.VbeFault.TheVariants.{Short, Wide, NegativeZero, Long}
