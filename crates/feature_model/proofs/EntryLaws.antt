@@ -1,8 +1,8 @@
 -- What is accepted is a mapping as it was told, and each mapping is accepted.
-use Rattle.std.proofs.Common.{◌≡◌, ℕ, suc, ◌≤◌, List, [], ◌∷◌, ◌++◌, map, length, Bool, true, false, not, ◌||◌, ◌&&◌, Option, Some, Ok, refl, sym, ap, ◌∙◌, subst, arith, true≢false}
+use Rattle.std.proofs.Common.{◌≡◌, ℕ, suc, ◌≤◌, List, [], ◌∷◌, ◌++◌, map, length, true, false, not, ◌||◌, ◌&&◌, Option, Some, Ok, refl, sym, ap, ◌∙◌, subst, arith}
 use Rattle.std.specs.Prelude.{nat_le, ok_or}
 use Rattle.std.specs.List.{AllByRecursion, IsDistinct}
-use Rattle.std.proofs.lemmas.Bool.{le-leb, leb-true, and_parts}
+use Rattle.std.proofs.lemmas.Bool.{le-leb, leb-true, and_parts, or_parts, not-true}
 use Rattle.std.proofs.lemmas.List.{append-nil, append_assoc}
 use Rattle.std.proofs.lemmas.Map.Keys.{IsDistinct-cons, IsDistinct-head, IsDistinct-tail}
 use Rattle.std.proofs.lemmas.List.Folds.{list_any-append}
@@ -15,14 +15,6 @@ use Rattle.feature_model.specs.Mapping.{Entry, Mapping}
 use Rattle.feature_model.specs.Descriptions.{entries_for}
 use Rattle.feature_model.specs.Entries.{entry, kind, twice, too_many, keeps_entry_rule, keeps_kind_rule, is_short, may_have_marks, is_same_tag, is_there, entry_behind, entries_behind, entries_limit, mapping_told, IsEntry, AreEntries, IsMapping}
 
-not_true : (b : Bool) → not b ≡ true → b ≡ false
-not_true true e = absurd (true≢false (sym e))
-not_true false e = refl
-
-or_false : (a b : Bool) → (a || b) ≡ false → (a ≡ false) × (b ≡ false)
-or_false true b e = absurd (true≢false e)
-or_false false b e = (refl, e)
-
 -- no entry of a list has the key and value of one that stands before all of them
 abbrev pub AreNew : List Entry → List Entry → Type 0
 AreNew before entries = AllByRecursion (λ e. is_there before e ≡ false) entries
@@ -31,8 +23,8 @@ AreNew before entries = AllByRecursion (λ e. is_there before e ≡ false) entri
 new-behind : (before : List Entry) (e : Entry) (more : List Entry) → AreNew (before ++ e ∷ []) more → AreNew before more × AllByRecursion (λ later. is_same_tag e later ≡ false) more
 new-behind before e [] new = (tt, tt)
 new-behind before e (later ∷ more) new =
-    let parts = or_false (is_there before later) (is_same_tag e later || false) (sym (list_any-append (λ earlier. is_same_tag earlier later) before (e ∷ [])) ∙ new.0) in
-    let here = or_false (is_same_tag e later) false parts.1 in
+    let parts = or_parts (is_there before later) (is_same_tag e later || false) (sym (list_any-append (λ earlier. is_same_tag earlier later) before (e ∷ [])) ∙ new.0) in
+    let here = or_parts (is_same_tag e later) false parts.1 in
     let others = new-behind before e more new.1 in
     ((parts.0, others.0), (here.0, others.1))
 
@@ -57,7 +49,7 @@ entry_behind-ok list before told e h =
     let (w, new, h4) = bind_ok (require (not (is_there before f)) (twice list index)) (λ u. Ok f) e h3 in
     let same : f ≡ e = ok_is f e h4 in
     subst (λ (e : Entry). (told ≡ Some e) × IsEntry list e × (is_there before e ≡ false)) same
-    (ok_or_ok told (entry list index) f is_told, record { entry_rule = require_ok (keeps_entry_rule list f) (entry list index) u rule; kind_rule = require_ok (keeps_kind_rule f) (kind list index) v kinds }, not_true (is_there before f) (require_ok (not (is_there before f)) (twice list index) w new))
+    (ok_or_ok told (entry list index) f is_told, record { entry_rule = require_ok (keeps_entry_rule list f) (entry list index) u rule; kind_rule = require_ok (keeps_kind_rule f) (kind list index) v kinds }, not-true (is_there before f) (require_ok (not (is_there before f)) (twice list index) w new))
 
 entry_behind-some : (list : which.List) (before : List Entry) (e : Entry) → IsEntry list e → is_there before e ≡ false → entry_behind list before (Some e) ≡ Ok e
 unfolding entry_behind
@@ -156,7 +148,7 @@ entry_rule-is list e h =
     let b = and_parts (is_short e.key && not (has_byte 61 e.key) && is_short e.value) (nat_le e.zoom 21) a.0 in
     let c = and_parts (is_short e.key && not (has_byte 61 e.key)) (is_short e.value) b.0 in
     let d = and_parts (is_short e.key) (not (has_byte 61 e.key)) c.0 in
-    record { key = short-is e.key d.0; no_equals = not_true (has_byte 61 e.key) d.1; value = short-is e.value c.1; zoom = leb-true e.zoom 21 b.1; marks = a.1 }
+    record { key = short-is e.key d.0; no_equals = not-true (has_byte 61 e.key) d.1; value = short-is e.value c.1; zoom = leb-true e.zoom 21 b.1; marks = a.1 }
 
 zooms-are : (list : which.List) (entries : List Entry) → AllByRecursion (IsEntry list) entries → AllByRecursion (λ (e : Entry). e.zoom ≤ 21) entries
 zooms-are list [] rules = tt

@@ -1,7 +1,7 @@
 -- What is written of a tile's members is a tile that a reader takes.
-use Rattle.std.proofs.Common.{◌≡◌, ◌⊎◌, ℕ, zero, suc, ◌+◌, ◌-◌, ◌<◌, ◌≤◌, List, [], ◌∷◌, ◌++◌, map, refl, sym, ap, ◌∙◌, arith, inl, inr, true, false, append-nil}
+use Rattle.std.proofs.Common.{◌≡◌, ℕ, zero, suc, ◌+◌, ◌-◌, ◌<◌, ◌≤◌, List, [], ◌∷◌, ◌++◌, map, refl, sym, ap, ◌∙◌, arith, inl, inr, true, false, append-nil}
 use Rattle.std.specs.Prelude.{Bool, count_by, filter, flat_map, zip, ◌==◌, cond}
-use Rattle.std.proofs.lemmas.Bool.{eqb-true, cases_lt, ne_eqb}
+use Rattle.std.proofs.lemmas.Bool.{cases_Bool, eqb-true, cases_lt, ne_eqb}
 use Rattle.std.specs.List.{range_with_len}
 use Rattle.std.proofs.lemmas.List.{length-map, map-append}
 use Rattle.std.proofs.lemmas.List.Sums.{length-filter}
@@ -19,10 +19,6 @@ use Rattle.map_model.specs.TileBytes.{poi_fields, poi_bytes, way_fields, way_byt
 use Rattle.map_model.specs.Listed.{TagLists, Listed, poi, way, shown_poi, shown_way, shown_levels, listed}
 
 -- ---- lists
-
-bool_cases : (b : Bool) → (b ≡ true) ⊎ (b ≡ false)
-bool_cases true = inl refl
-bool_cases false = inr refl
 
 flat_map_ext : {A B : Type 0} (f g : A → List B) → ((x : A) → f x ≡ g x) → (xs : List A) → flat_map f xs ≡ flat_map g xs
 flat_map_ext f g e [] = refl
@@ -49,12 +45,12 @@ filter-miss p x xs e = ap (λ b. cond b (x ∷ filter p xs) (filter p xs)) e
 filter-comm : {X : Type 0} (p q : X → Bool) (xs : List X) → filter p (filter q xs) ≡ filter q (filter p xs)
 filter-comm p q [] = refl
 filter-comm p q (x ∷ xs) =
-    elim (bool_cases (p x)) [
-      | inl pe ↦ elim (bool_cases (q x)) [
+    elim (cases_Bool (p x)) [
+      | inl pe ↦ elim (cases_Bool (q x)) [
         | inl qe ↦ rw (filter-hit q x xs qe, filter-hit p x xs pe, filter-hit p x (filter q xs) pe, filter-hit q x (filter p xs) qe, filter-comm p q xs) refl
         | inr qe ↦ rw (filter-miss q x xs qe, filter-hit p x xs pe, filter-miss q x (filter p xs) qe) (filter-comm p q xs)
       ]
-      | inr pe ↦ elim (bool_cases (q x)) [
+      | inr pe ↦ elim (cases_Bool (q x)) [
         | inl qe ↦ rw (filter-hit q x xs qe, filter-miss p x xs pe, filter-miss p x (filter q xs) pe) (filter-comm p q xs)
         | inr qe ↦ rw (filter-miss q x xs qe, filter-miss p x xs pe) (filter-comm p q xs)
       ]
@@ -63,7 +59,7 @@ filter-comm p q (x ∷ xs) =
 filter-idem : {X : Type 0} (p : X → Bool) (xs : List X) → filter p (filter p xs) ≡ filter p xs
 filter-idem p [] = refl
 filter-idem p (x ∷ xs) =
-    elim (bool_cases (p x)) [
+    elim (cases_Bool (p x)) [
       | inl e ↦ rw (filter-hit p x xs e, filter-hit p x (filter p xs) e, filter-idem p xs) refl
       | inr e ↦ rw (filter-miss p x xs e) (filter-idem p xs)
     ]
@@ -71,7 +67,7 @@ filter-idem p (x ∷ xs) =
 filter-none : {X : Type 0} (p q : X → Bool) → ((x : X) → q x ≡ true → p x ≡ false) → (xs : List X) → filter p (filter q xs) ≡ []
 filter-none p q apart [] = refl
 filter-none p q apart (x ∷ xs) =
-    elim (bool_cases (q x)) [
+    elim (cases_Bool (q x)) [
       | inl e ↦ rw (filter-hit q x xs e, filter-miss p x (filter q xs) (apart x e)) (filter-none p q apart xs)
       | inr e ↦ rw (filter-miss q x xs e) (filter-none p q apart xs)
     ]
@@ -91,7 +87,7 @@ by_zoom-nil : (interval : Interval) → by_zoom interval [] ≡ []
 by_zoom-nil interval = flat_map_nothing (zooms interval)
 
 way_is_no_poi : (f : Feature) → is_way f ≡ true → is_poi f ≡ false
-way_is_no_poi f e = elim (bool_cases (is_poi f)) [ inl yes' ↦ cc (yes', e) | inr below ↦ below ]
+way_is_no_poi f e = elim (cases_Bool (is_poi f)) [ inl yes' ↦ cc (yes', e) | inr below ↦ below ]
 
 poi_is_no_way : (f : Feature) → is_poi f ≡ true → is_way f ≡ false
 poi_is_no_way f e = rw e refl
@@ -197,15 +193,6 @@ listed-way : (tags : TagLists) (tile : TilePlace) (f : Feature) → is_poi f ≡
 unfolding listed
 listed-way tags tile f e = ap (λ b. cond b (poi (shown_poi tags.poi (effective_zoom tile.interval f.zoom) (poi_fields f))) (way (shown_way tags.way (effective_zoom tile.interval f.zoom) (way_fields (tile_corner tile) (sub_tile_bits f tile) f)))) e
 
--- where two functions agree on what passes a test, they agree over a filter
-map-filter_ext : {A B : Type 0} (p : A → Bool) (f g : A → B) → ((x : A) → p x ≡ true → f x ≡ g x) → (xs : List A) → map f (filter p xs) ≡ map g (filter p xs)
-map-filter_ext p f g e [] = refl
-map-filter_ext p f g e (x ∷ xs) =
-    elim (bool_cases (p x)) [
-      | inl hit ↦ rw (filter-hit p x xs hit) (λ i. e x hit i ∷ map-filter_ext p f g e xs i)
-      | inr miss ↦ rw (filter-miss p x xs miss) (map-filter_ext p f g e xs)
-    ]
-
 map-map : {A B C : Type 0} (g : B → C) (f : A → B) (xs : List A) → map g (map f xs) ≡ map (λ x. g (f x)) xs
 map-map g f [] = refl
 map-map g f (x ∷ xs) = λ i. g (f x) ∷ map-map g f xs i
@@ -223,9 +210,9 @@ module _ (tags : TagLists) (tile : TilePlace) (kind : Feature → Bool) (at_zoom
   pass : (xs : List Feature) → map (at_zoom z) (filter kind (filter same_zoom xs)) ≡ map (listed tags tile) (filter kind (filter same_zoom xs))
   pass [] = refl
   pass (x ∷ xs) =
-      elim (bool_cases (same_zoom x)) [
+      elim (cases_Bool (same_zoom x)) [
         | inl hit ↦ rw (filter-hit same_zoom x xs hit)
-            (elim (bool_cases (kind x)) [
+            (elim (cases_Bool (kind x)) [
               | inl right ↦ rw (filter-hit kind x (filter same_zoom xs) right) (λ i. one x right hit i ∷ pass xs i)
               | inr wrong ↦ rw (filter-miss kind x (filter same_zoom xs) wrong) (pass xs)
             ])

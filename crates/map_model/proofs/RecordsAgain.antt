@@ -81,9 +81,6 @@ layer_at-again layer count rest h few =
 
 -- ---- values and tags
 
-signed_fits : (half n : ℕ) → n ≤ half → n < suc half
-signed_fits half n le = omega (arith, le)
-
 pub value_at-again : (kind : ValueKind) (value : KeptValue) → IsOfKind IsText kind value → Again (value_at kind) (value_bytes value) value
 unfolding Again
 value_at-again ValueKind.plain KeptValue.plain h rest = refl

@@ -1,8 +1,8 @@
 -- Objects in order rise.
-use Rattle.std.proofs.Common.{◌≡◌, ◌==◌, ◌||◌, ℕ, ◌<◌, ◌≤◌, List, [], ◌∷◌, ◌++◌, refl, sym, ap, subst, ◌∙◌, arith, inl, inr, true, false, Bool, cond, Result, Ok, Err, Option, Some, None, ℤ, pos, negsuc, nat_lt, append_assoc, append-nil}
+use Rattle.std.proofs.Common.{◌≡◌, ◌==◌, ℕ, ◌<◌, ◌≤◌, List, [], ◌∷◌, ◌++◌, refl, sym, ap, subst, ◌∙◌, arith, inl, inr, true, false, Bool, cond, Result, Ok, Err, Option, Some, None, ℤ, pos, negsuc, nat_lt, append_assoc, append-nil}
 use Rattle.std.specs.Prelude.{⊤, nat_abs, int_le, map, unwrap_or, filter}
 use Rattle.std.specs.List.{All, AllByRecursion, last_or}
-use Rattle.std.proofs.lemmas.Bool.{leb-false, ltb-false, false≢true}
+use Rattle.std.proofs.lemmas.Bool.{leb-false, ltb-false, false≢true, or_parts}
 use Rattle.std.proofs.lemmas.List.Elements.{All-head, All-tail, All-nil, All-cons}
 use Rattle.mf_base.specs.declared.kind.EntityKind.{EntityKind}
 use Rattle.mf_base.proofs.Pairs.{EachPair, each_pair, all_pairs}
@@ -65,15 +65,10 @@ same_rank kinds.Node = refl
 same_rank kinds.Way = refl
 same_rank kinds.Relation = refl
 
--- no object is of a later kind
-neither : (p q : Bool) → (p || q) ≡ false → (p ≡ false) × (q ≡ false)
-neither true q e = absurd (false≢true (sym e))
-neither false q e = (refl, e)
-
 no_later : (kind : EntityKind) (es : List Entity) → has_later_kind kind es ≡ false → AllByRecursion (λ d. rank (kind_of d) ≤ rank kind) es
 no_later kind [] e = tt
 no_later kind (d ∷ ds) e =
-    let (here, later) = neither (nat_lt (rank kind) (rank (kind_of d))) (has_later_kind kind ds) e in
+    let (here, later) = or_parts (nat_lt (rank kind) (rank (kind_of d))) (has_later_kind kind ds) e in
     (ltb-false (rank kind) (rank (kind_of d)) here, no_later kind ds later)
 
 -- an id above the last of its kind is above all of its kind
