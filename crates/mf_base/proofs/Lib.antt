@@ -1,4 +1,5 @@
 pub mod Pairs
+pub mod Written
 pub mod StepLaws
 pub mod OneSpelling
 pub mod Runs

@@ -1,4 +1,5 @@
 pub mod Steps
+pub mod Buffer
 pub mod Ranges
 pub mod Spelling
 pub mod NumberReading

@@ -3,10 +3,14 @@
 //! The types are `place`, `kind`, `kept`, `tile` and `number`. The rules stand in `specs/`.
 #![tactic(auto)]
 
+pub mod fixed;
 pub mod kept;
 pub mod kind;
 pub mod laws;
 pub mod number;
+pub mod out_buf;
 pub mod place;
 pub mod rows;
 pub mod tile;
+pub mod vbe;
+pub mod zigzag;

@@ -1,0 +1,57 @@
+-- The steps of the writers of numbers.
+use Rattle.std.proofs.Common.{◌≡◌, ℕ, zero, suc, ◌+◌, ◌/◌, ◌%◌, ◌<◌, ◌≤◌, ◌^◌, List, [], ◌∷◌, ◌++◌, length, take, refl, inl, inr, arith, append_assoc, length-append, ap}
+use Rattle.std.proofs.lemmas.Bool.{cases_lt}
+use Rattle.std.proofs.lemmas.List.{take_at}
+use Rattle.byteorder.specs.Endian.{big_bytes}
+use Rattle.byteorder.specs.Numbers.{length-bytes_high_first}
+use Rattle.mf_base.specs.Spelling.{vbe}
+use Rattle.mf_base.specs.Buffer.{Buffer, HasRoom, AppendsTo}
+use Rattle.mf_base.proofs.OneSpelling.{vbe-small, vbe-more, length-vbe_unsigned-63, length-vbe_signed-63, length-vbe-positive}
+
+-- one more byte of a spelling
+pub spelled-more : (bytes : List ℕ) (last sign m : ℕ) → 0 < last → last ≤ m → (bytes ++ (128 + m % 128) ∷ []) ++ vbe last sign (m / 128) ≡ bytes ++ vbe last sign m
+spelled-more bytes last sign m some large = rw (vbe-more last sign m some large, append_assoc) refl
+
+-- What is still to be put of a spelling completes what was put since the first.
+unfoldable pub Completes : Buffer → Buffer → ℕ → ℕ → ℕ → ℕ → Type 0
+Completes now first last sign rest m = (now.bytes ++ vbe last sign rest ≡ first.bytes ++ vbe last sign m) × (now.capacity ≡ first.capacity)
+
+-- it has room
+pub room-left : (now first : Buffer) (last sign rest m : ℕ) → 0 < last → Completes now first last sign rest m → length (vbe last sign m) ≤ 10 → HasRoom first 10 → HasRoom now 1
+unfolding Completes
+room-left now first last sign rest m some h short room =
+    omega (arith, simp length-append at (ap length h.0), short, length-vbe-positive last sign rest some, h.1, room)
+
+pub put-more : (now next first : Buffer) (last sign rest m : ℕ) → 0 < last → last ≤ rest → Completes now first last sign rest m → AppendsTo now next ((128 + rest % 128) ∷ []) → Completes next first last sign (rest / 128) m
+unfolding Completes
+put-more now next first last sign rest m some large h put = rw put (rw (spelled-more now.bytes last sign rest some large) h.0, h.1)
+
+pub put-last : (now next first : Buffer) (last sign rest m : ℕ) → rest < last → Completes now first last sign rest m → AppendsTo now next ((rest + sign) ∷ []) → AppendsTo first next (vbe last sign m)
+unfolding Completes
+put-last now next first last sign rest m small h put = rw (put, ← vbe-small last sign rest small, h.0, h.1) refl
+
+pub puts-at_most : (first next : Buffer) (bytes : List ℕ) → AppendsTo first next bytes → length bytes ≤ 10 → length next.bytes ≤ length first.bytes + 10
+puts-at_most first next bytes put short = rw put (omega (arith, length-append first.bytes bytes, short))
+
+pub size-more : (last rest size all : ℕ) → 0 < last → last ≤ rest → size + length (vbe last 0 rest) ≡ all → size + 1 + length (vbe last 0 (rest / 128)) ≡ all
+size-more last rest size all some large h = let e = ap length (vbe-more last 0 rest some large) in omega (arith, h, e)
+
+-- a size is that of the spelling without a sign
+length-any_sign : (k last sign m : ℕ) → 0 < last → m < k → length (vbe last sign m) ≡ length (vbe last 0 m)
+length-any_sign zero last sign m some less = absurd (omega (arith, less))
+length-any_sign (suc k) last sign m some less =
+    elim (cases_lt m last) [
+      | inl small ↦ rw (vbe-small last sign m small, vbe-small last 0 m small) refl
+      | inr large ↦ rw (vbe-more last sign m some large, vbe-more last 0 m some large) (ap (λ (n : ℕ). suc n) (length-any_sign k last sign (m / 128) some (omega (arith, large, some, less))))
+    ]
+
+pub size-whole : (last sign rest size m : ℕ) → 0 < last → rest < last → size + length (vbe last 0 rest) ≡ 1 + length (vbe last 0 m) → size ≡ length (vbe last sign m)
+size-whole last sign rest size m some small h =
+    let e = ap length (vbe-small last 0 rest small) in
+    let same = length-any_sign (suc m) last sign m some (omega arith) in
+    omega (arith, h, e, same)
+
+pub be_front : (w v : ℕ) (rest : List ℕ) → take w (big_bytes w v ++ rest) ≡ big_bytes w v
+be_front w v rest = take_at (big_bytes w v) rest w (length-bytes_high_first w v)
+
+pub ruleset vbe_sizes = (length-vbe_unsigned-63, length-vbe_signed-63)

@@ -1,0 +1,82 @@
+//! Numbers in variable byte encoding, written: Mapsforge map format 5.
+
+ghost use Rattle.std.specs.Prelude.{◌≡◌, ℕ, ◌+◌, ◌≤◌, ◌<◌, ◌^◌, length, nat_abs};
+ghost use Rattle.mf_base.specs.Buffer.{HasRoom, AppendsTo};
+ghost use Rattle.mf_base.specs.Spelling.{vbe, vbe_unsigned, vbe_signed};
+
+use crate::out_buf::OutBuf;
+
+/// Puts the unsigned spelling of `v`, at most nine bytes.
+#[tactic(auto, using(crate::proofs::Written::vbe_sizes))]
+pub fn put_vbe_u(out: &mut OutBuf, v: u64)
+    requires room { HasRoom out.old 10 }
+    requires fits { v < 2 ^ 63 }
+    ensures appends { AppendsTo out.old out.new (vbe_unsigned v) }
+    ensures most { length out.new.bytes ≤ length out.old.bytes + 10 }
+{
+    put_groups(out, 128, 0, v);
+}
+
+/// Puts the signed spelling of `v`, at most ten bytes.
+#[tactic(auto, using(crate::proofs::Written::vbe_sizes))]
+pub fn put_vbe_s(out: &mut OutBuf, v: i64)
+    requires room { HasRoom out.old 10 }
+    requires fits { nat_abs v < 2 ^ 63 }
+    ensures appends { AppendsTo out.old out.new (vbe_signed v) }
+    ensures most { length out.new.bytes ≤ length out.old.bytes + 10 }
+{
+    put_groups(out, 64, if v < 0 { 64 } else { 0 }, v.unsigned_abs());
+}
+
+/// How many bytes `put_vbe_u` puts.
+#[tactic(auto, using(crate::proofs::Written::vbe_sizes))]
+pub fn size_vbe_u(v: u64) -> u32
+    requires fits { v < 2 ^ 63 }
+    ensures size { result ≡ length (vbe_unsigned v) }
+    ensures most { result ≤ 10 }
+{
+    size_groups(128, v)
+}
+
+/// How many bytes `put_vbe_s` puts.
+#[tactic(auto, using(crate::proofs::Written::vbe_sizes))]
+pub fn size_vbe_s(v: i64) -> u32
+    requires fits { nat_abs v < 2 ^ 63 }
+    ensures size { result ≡ length (vbe_signed v) }
+    ensures most { result ≤ 10 }
+{
+    size_groups(64, v.unsigned_abs())
+}
+
+// Puts seven bits a byte while the rest is not below `last`, then the rest with the sign's bit.
+fn put_groups(out: &mut OutBuf, last: u8, sign: u8, magnitude: u64)
+    requires some { 0 < last }
+    requires byte { last + sign ≤ 128 }
+    requires short { length (vbe last sign magnitude) ≤ 10 }
+    requires room { HasRoom out.old 10 }
+    ensures appends { AppendsTo out.old out.new (vbe last sign magnitude) }
+    ensures most { length out.new.bytes ≤ length out.old.bytes + 10 }
+{
+    let mut rest = magnitude;
+    while rest >= u64::from(last) {
+        out.put(&[128 + (rest % 128) as u8]);
+        rest /= 128;
+    }
+    out.put(&[rest as u8 + sign]);
+}
+
+// How many bytes `put_groups` puts, whatever the sign.
+fn size_groups(last: u8, magnitude: u64) -> u32
+    requires some { 0 < last }
+    requires short { length (vbe last 0 magnitude) ≤ 10 }
+    ensures size { (sign : ℕ) → result ≡ length (vbe last sign magnitude) }
+    ensures most { result ≤ 10 }
+{
+    let mut rest = magnitude;
+    let mut size = 1;
+    while rest >= u64::from(last) {
+        rest /= 128;
+        size += 1;
+    }
+    size
+}

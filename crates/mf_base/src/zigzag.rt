@@ -1,0 +1,23 @@
+//! Signed numbers of an extract: Protocol Buffers, "Encoding", signed integers.
+
+ghost use Rattle.std.specs.Prelude.{◌≡◌};
+ghost use Rattle.mf_base.specs.Spelling.{zigzag_of, unzigzag_of};
+
+/// The number that tells `v`: 0, -1, 1, -2 are told by 0, 1, 2, 3.
+pub fn zigzag(v: i64) -> u64
+    ensures { result ≡ zigzag_of v }
+{
+    if v < 0 {
+        2 * (v.unsigned_abs() - 1) + 1
+    } else {
+        2 * v.unsigned_abs()
+    }
+}
+
+/// The number that `v` tells.
+pub fn unzigzag(v: u64) -> i64
+    ensures { result ≡ unzigzag_of v }
+{
+    let half = (v / 2) as i64;
+    if v % 2 == 0 { half } else { -1 - half }
+}
