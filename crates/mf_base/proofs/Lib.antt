@@ -1,4 +1,5 @@
 pub mod Pairs
+pub mod VarintRead
 pub mod Written
 pub mod StepLaws
 pub mod OneSpelling

@@ -66,3 +66,7 @@ unfoldable pub signed_front : List ℕ → Result (ℤ × ℕ) VbeFault
 signed_front bytes = do
   found ← vbe_front 64 bytes
   Ok (with_sign found.0, found.1)
+
+-- what is read at a place, with the next place instead of the number of bytes
+abbrev pub read_at : {X F : Type 0} → ℕ → Result (X × ℕ) F → Result (X × ℕ) F
+read_at at read = read >>= λ found. Ok (found.0, at + found.1)

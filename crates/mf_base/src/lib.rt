@@ -12,5 +12,6 @@ pub mod out_buf;
 pub mod place;
 pub mod rows;
 pub mod tile;
+pub mod varint;
 pub mod vbe;
 pub mod zigzag;

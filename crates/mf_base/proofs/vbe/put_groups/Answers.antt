@@ -1,4 +1,4 @@
-use Rattle.std.proofs.Common.{rules, arith, refl}
+use Rattle.std.proofs.Common.{arith, refl}
 use Rattle.mf_base.proofs.Written.{Completes, room-left, put-more, put-last, puts-at_most}
 use Rattle.mf_base.proofs.vbe.put_groups.Goals as goal
 

@@ -1,4 +1,4 @@
-use Rattle.std.proofs.Common.{◌≡◌, ◌+◌, ℕ, length}
+use Rattle.std.proofs.Common.{◌≡◌, ◌+◌, length}
 use Rattle.mf_base.specs.Spelling.{vbe}
 use Rattle.mf_base.proofs.vbe.size_groups.Given as goal
 
