@@ -80,3 +80,49 @@ fn size_groups(last: u8, magnitude: u64) -> u32
     }
     size
 }
+
+#[cfg(test)]
+mod tests {
+    use super::*;
+    use std::test::Fail;
+
+    // A signed number and its spelling, from the format.
+    const SIGNED: [(i64, &[u8]); 6] = [
+        (0, &[0x00]),
+        (63, &[0x3f]),
+        (64, &[0xc0, 0x00]),
+        (-1, &[0x41]),
+        (-64, &[0xc0, 0x40]),
+        (180000000, &[0x80, 0xaa, 0xea, 0xd5, 0x00]),
+    ];
+
+    // An unsigned number and its spelling, from the format.
+    const UNSIGNED: [(u64, &[u8]); 4] = [
+        (0, &[0x00]),
+        (127, &[0x7f]),
+        (128, &[0x80, 0x01]),
+        ((1 << 63) - 1, &[0xff, 0xff, 0xff, 0xff, 0xff, 0xff, 0xff, 0xff, 0x7f]),
+    ];
+
+    #[test]
+    fn spellings(rt: HostRuntime) -> Result<(), Fail> {
+        let mut out = OutBuf::new(rt.alloc(), 10)?;
+        for (v, want) in SIGNED {
+            out.clear();
+            assert!(rt; out.spare() >= 10);
+            assert!(rt; v > i64::MIN);
+            put_vbe_s(&mut out, v);
+            assert_eq!(rt; out.bytes(), want, "at {v}");
+            assert_eq!(rt; size_vbe_s(v) as usize, want.len(), "at {v}");
+        }
+        for (v, want) in UNSIGNED {
+            out.clear();
+            assert!(rt; out.spare() >= 10);
+            assert!(rt; v < 1 << 63);
+            put_vbe_u(&mut out, v);
+            assert_eq!(rt; out.bytes(), want, "at {v}");
+            assert_eq!(rt; size_vbe_u(v) as usize, want.len(), "at {v}");
+        }
+        Ok(())
+    }
+}
