@@ -21,3 +21,32 @@ pub fn put_be(out: &mut OutBuf, v: u64, width: u8)
     BigEndian::write_uint(&mut bytes, v, width);
     out.put(&bytes[..width]);
 }
+
+#[cfg(test)]
+mod tests {
+    use super::*;
+    use std::test::Fail;
+
+    #[test]
+    fn widths(rt: HostRuntime) -> Result<(), Fail> {
+        let mut out = OutBuf::new(rt.alloc(), 20)?;
+        assert!(rt; out.spare() >= 1);
+        put_be(&mut out, 0xfe, 1);
+        assert!(rt; out.spare() >= 2);
+        put_be(&mut out, 0x0102, 2);
+        assert!(rt; out.spare() >= 4);
+        put_be(&mut out, 0x0304_0506, 4);
+        assert!(rt; out.spare() >= 5);
+        put_be(&mut out, 0x07_0809_0a0b, 5);
+        assert!(rt; out.spare() >= 8);
+        put_be(&mut out, 0xffff_ffff_ffff_fffe, 8);
+        assert_eq!(rt;
+            out.bytes(),
+            [
+                0xfe, 1, 2, 3, 4, 5, 6, 7, 8, 9, 10, 11, 255, 255, 255, 255, 255, 255, 255, 254
+            ]
+            .as_slice()
+        );
+        Ok(())
+    }
+}

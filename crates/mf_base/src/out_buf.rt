@@ -65,3 +65,27 @@ impl OutBuf {
         self.written.extend_from_slice(bytes).unwrap();
     }
 }
+
+#[cfg(test)]
+mod tests {
+    use super::*;
+    use std::test::Fail;
+
+    #[test]
+    fn put_and_cleared(rt: HostRuntime) -> Result<(), Fail> {
+        let mut out = OutBuf::new(rt.alloc(), 5)?;
+        assert_eq!(rt; out.spare(), 5);
+        assert!(rt; out.bytes().is_empty());
+        assert!(rt; out.spare() >= 2);
+        out.put(&[7, 0]);
+        out.put(&[]);
+        assert!(rt; out.spare() >= 3);
+        out.put(&[9, 8, 255]);
+        assert_eq!(rt; out.bytes(), [7, 0, 9, 8, 255].as_slice());
+        assert_eq!(rt; out.spare(), 0);
+        out.clear();
+        assert_eq!(rt; out.spare(), 5);
+        assert!(rt; out.bytes().is_empty());
+        Ok(())
+    }
+}

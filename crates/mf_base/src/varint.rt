@@ -47,3 +47,67 @@ fn first_varint(bytes: &[u8]) -> Result<(u64, usize), VarintFault>
     }
     Err(VarintFault::Short)
 }
+
+#[cfg(test)]
+mod tests {
+    use super::*;
+    use std::test::Fail;
+
+    // Bytes, a place, and the varint there with the place behind it.
+    const FOUND: [(&[u8], usize, u64, usize); 6] = [
+        (&[0], 0, 0, 1),
+        (&[9, 0x96, 0x01, 7], 1, 150, 3),
+        (&[0x80, 0x80, 0], 0, 0, 3),
+        (
+            &[255, 255, 255, 255, 255, 255, 255, 255, 255, 1],
+            0,
+            u64::MAX,
+            10,
+        ),
+        (
+            &[128, 128, 128, 128, 128, 128, 128, 128, 128, 1],
+            0,
+            1 << 63,
+            10,
+        ),
+        (
+            &[5, 255, 255, 255, 255, 255, 255, 255, 255, 255, 0, 5],
+            1,
+            u64::MAX >> 1,
+            11,
+        ),
+    ];
+
+    // Bytes, a place, and why there is no varint.
+    const FAULTS: [(&[u8], usize, VarintFault); 6] = [
+        (&[], 0, VarintFault::Short),
+        (&[1], 1, VarintFault::Short),
+        (&[1], 2, VarintFault::Short),
+        (
+            &[255, 255, 255, 255, 255, 255, 255, 255, 255],
+            0,
+            VarintFault::Short,
+        ),
+        (
+            &[255, 255, 255, 255, 255, 255, 255, 255, 255, 2],
+            0,
+            VarintFault::Long,
+        ),
+        (
+            &[255, 255, 255, 255, 255, 255, 255, 255, 255, 128, 1],
+            0,
+            VarintFault::Long,
+        ),
+    ];
+
+    #[test]
+    fn found_and_refused(rt: HostRuntime) -> Result<(), Fail> {
+        for (bytes, at, value, next) in FOUND {
+            assert_eq!(rt; get_varint(bytes, at), Ok((value, next)), "in {bytes:?}");
+        }
+        for (bytes, at, fault) in FAULTS {
+            assert_eq!(rt; get_varint(bytes, at), Err(fault), "in {bytes:?}");
+        }
+        Ok(())
+    }
+}

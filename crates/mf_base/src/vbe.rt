@@ -1,4 +1,4 @@
-//! Numbers in variable byte encoding, written: Mapsforge map format 5.
+//! Numbers in variable byte encoding, written: Mapsforge Specification, Binary Map File Format, version 5.
 
 ghost use Rattle.std.specs.Prelude.{◌≡◌, ℕ, ◌+◌, ◌≤◌, ◌<◌, ◌^◌, length, nat_abs};
 ghost use Rattle.mf_base.specs.Buffer.{HasRoom, AppendsTo};
@@ -101,7 +101,10 @@ mod tests {
         (0, &[0x00]),
         (127, &[0x7f]),
         (128, &[0x80, 0x01]),
-        ((1 << 63) - 1, &[0xff, 0xff, 0xff, 0xff, 0xff, 0xff, 0xff, 0xff, 0x7f]),
+        (
+            (1 << 63) - 1,
+            &[0xff, 0xff, 0xff, 0xff, 0xff, 0xff, 0xff, 0xff, 0x7f],
+        ),
     ];
 
     #[test]
