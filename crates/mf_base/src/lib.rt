@@ -1,6 +1,6 @@
 //! Plain types and the rules that every layer shares.
 //!
-//! The types are `place`, `kind`, `kept`, `tile` and `number`. The rules stand in `specs/`.
+//! The types are `place`, `kind`, `kept`, `tile` and `number`. Bytes are put into an `out_buf`: numbers by `vbe` and `fixed`. Those of an extract are read by `varint` and `zigzag`. The rules stand in `specs/`, with their `laws` and `rows`.
 #![tactic(auto)]
 
 pub mod fixed;
