@@ -98,3 +98,40 @@ impl<W: Write> Sink for WriteSink<W> {
         }
     }
 }
+
+#[cfg(test)]
+mod tests {
+    use super::*;
+
+    #[test]
+    fn standard_input(rt: HostRuntime) {
+        let mut source = ReadSource::new(rt.stdin());
+        assert_eq!(rt; source.read(&mut []), Ok(0));
+        let mut bytes = ReadSource::new(b"abc".as_slice());
+        let mut out = [b'.'; 2];
+        assert_eq!(rt; bytes.read(&mut out), Ok(2));
+        assert_eq!(rt; out, *b"ab");
+    }
+
+    #[test]
+    fn standard_output(rt: HostRuntime) {
+        let mut sink = WriteSink::new(rt.stdout());
+        assert_eq!(rt; sink.write(b"a\n"), Ok(2));
+        assert_eq!(rt; sink.write(b""), Ok(0));
+    }
+
+    #[test]
+    fn standard_error(rt: HostRuntime) {
+        let mut sink = WriteSink::new(rt.stderr());
+        assert_eq!(rt; sink.write(b"a\n"), Ok(2));
+        assert_eq!(rt; sink.write(b""), Ok(0));
+    }
+
+    #[test]
+    fn a_full_writer(rt: HostRuntime) {
+        let mut room = [b'.'; 2];
+        let mut sink = WriteSink::new(room.as_mut_slice());
+        assert_eq!(rt; sink.write(b"abc"), Ok(2));
+        assert_eq!(rt; sink.write(b"c"), Err(Failed));
+    }
+}

@@ -9,7 +9,7 @@ use std::marker::Model;
 
 /// How many calls were made, which fail, and how many faults there were.
 #[derive(Drop)]
-pub struct Calls {
+pub(crate) struct Calls {
     made: Count,
     // The same number, but that it stands at its type's end. No call is listed from there on.
     number: u64,
@@ -30,7 +30,7 @@ impl Model for Calls {
 
 impl Calls {
     /// No call was made. `listed` are the numbers of those that fail, counted from 1.
-    pub fn new(alloc: Global, listed: &[u64]) -> Result<Calls, AllocError>
+    pub(crate) fn new(alloc: Global, listed: &[u64]) -> Result<Calls, AllocError>
         ensures { IfOk result (λ c. c ≡ record { made = 0; listed = listed.now; faults = 0 }) }
     {
         Ok(Calls {
@@ -42,7 +42,7 @@ impl Calls {
     }
 
     /// Makes a call, and answers whether it fails. Then it is counted as a fault.
-    pub fn fails_now(&mut self) -> bool
+    pub(crate) fn fails_now(&mut self) -> bool
         ensures listed { IsTrue result ↔ Contains self.old.listed (self.old.made + 1) }
         ensures fault { IsTrue result → HasRisen self.old.faults self.new.faults }
         ensures none { result ≡ false → self.new.faults ≡ self.old.faults }
@@ -60,7 +60,7 @@ impl Calls {
     }
 
     /// Counts a fault of another cause in the call that was made last.
-    pub fn count_fault(&mut self)
+    pub(crate) fn count_fault(&mut self)
         ensures fault { HasRisen self.old.faults self.new.faults }
         ensures counts { self.old.faults ≤ self.new.faults }
         ensures made { self.new.made ≡ self.old.made }

@@ -197,3 +197,20 @@ impl Sink for MemSink {
         Ok(n)
     }
 }
+
+#[cfg(test)]
+mod tests {
+    use super::*;
+    use std::test::Fail;
+
+    #[test]
+    fn listed_reads_fail(rt: HostRuntime) -> Result<(), Fail> {
+        let mut source = MemSource::new(rt.alloc(), b"abc", 2, &[2, 4])?;
+        let mut out = [b'.'; 4];
+        for answer in [Ok(2), Err(Failed), Ok(1), Err(Failed), Ok(0)] {
+            assert_eq!(rt; source.read(&mut out), answer);
+        }
+        assert_eq!(rt; out.as_slice(), b"cb..".as_slice());
+        Ok(())
+    }
+}

@@ -63,6 +63,7 @@ impl<'a, S: Source> Stream<'a, S> {
 
         ensures read { result ≡ Err FillFault.Read → (block.new.bytes ≡ []) × HasRisen (S.faults self.old.source.now) (S.faults self.new.source.now) }
 
+        ensures within { length block.new.bytes ≤ n }
         ensures passed { self.new.offset ≡ self.old.offset + length block.new.bytes }
         ensures reads { S.reads self.new.source.now ≤ S.reads self.old.source.now + (n + 1) }
         ensures counts { S.faults self.old.source.now ≤ S.faults self.new.source.now }
@@ -77,6 +78,43 @@ impl<'a, S: Source> Stream<'a, S> {
         if have < n {
             return Err(FillFault::End { have: have as u64 });
         }
+        Ok(())
+    }
+}
+
+#[cfg(test)]
+mod tests {
+    use super::*;
+    use crate::{MemSource, SureSource};
+    use std::test::Fail;
+
+    #[test]
+    fn blocks_of_a_source_in_pieces(rt: HostRuntime) -> Result<(), Fail> {
+        for piece in [1, 2, 7] {
+            assert!(rt; piece > 0);
+            let mut source = SureSource::new(rt.alloc(), b"abcdefg", piece)?;
+            let mut block = Block::new(rt.alloc(), 5)?;
+            let mut stream = Stream::new(&mut source);
+            assert_eq!(rt; stream.fill(&mut block, 4), Ok(()), "in pieces of {piece}");
+            assert_eq!(rt; block.bytes(), b"abcd".as_slice());
+            assert_eq!(rt; stream.fill(&mut block, 0), Ok(()));
+            assert_eq!(rt; block.bytes().len(), 0);
+            assert_eq!(rt; stream.fill(&mut block, 5), Err(FillFault::End { have: 3 }));
+            assert_eq!(rt; block.bytes(), b"efg".as_slice());
+            assert_eq!(rt; stream.offset(), 7);
+        }
+        Ok(())
+    }
+
+    #[test]
+    fn a_read_fails_in_a_block(rt: HostRuntime) -> Result<(), Fail> {
+        let mut source = MemSource::new(rt.alloc(), b"abcdefg", 2, &[3])?;
+        let mut block = Block::new(rt.alloc(), 4)?;
+        let mut stream = Stream::new(&mut source);
+        assert_eq!(rt; stream.fill(&mut block, 3), Ok(()));
+        assert_eq!(rt; block.bytes(), b"abc".as_slice());
+        assert_eq!(rt; stream.fill(&mut block, 3), Err(FillFault::Read));
+        assert_eq!(rt; block.bytes().len(), 0);
         Ok(())
     }
 }
