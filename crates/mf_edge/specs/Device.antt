@@ -7,6 +7,10 @@ Takes None bytes now = now ≡ None
 Takes (Some all) bytes None = ⊥
 Takes (Some all) bytes (Some rest) = all ≡ bytes ++ rest
 
+-- So many bytes were taken from the front of those that were left.
+abbrev pub Passes : Option (List ℕ) → ℕ → Option (List ℕ) → Type 0
+Passes before n now = (bytes : List ℕ) × (length bytes ≡ n) × Takes before bytes now
+
 -- nothing is left, where that is told
 abbrev pub IsAtEnd : Option (List ℕ) → Type 0
 IsAtEnd None = ⊤

@@ -1,7 +1,7 @@
 //! A source that is read by blocks.
 
 ghost use Rattle.std.specs.Prelude.{◌≡◌, ◌≢◌, ◌↔◌, ℕ, ◌+◌, ◌<◌, ◌≤◌, ◌^◌, [], length, take, IsOk, IfOk, IfSome, OnOk, OnErr, Err};
-ghost use Rattle.mf_edge.specs.Device.{Takes, IsAtEnd, HasRisen};
+ghost use Rattle.mf_edge.specs.Device.{Takes, Passes, IsAtEnd, HasRisen};
 
 use crate::{Block, Failed, Source};
 use thiserror::Error;
@@ -77,6 +77,42 @@ impl<'a, S: Source> Stream<'a, S> {
         self.offset += have as u64;
         if have < n {
             return Err(FillFault::End { have: have as u64 });
+        }
+        Ok(())
+    }
+
+    /// Passes over the next `n` bytes. The block has no bytes afterwards.
+    ///
+    /// The stream is not to be used again after a fault.
+    pub fn skip(&mut self, block: &mut Block, n: u64) -> Result<(), FillFault>
+        requires room { 0 < block.old.capacity }
+        requires offset { self.old.offset + n < 2 ^ 63 }
+
+        ensures ok { OnOk result (Passes (S.left self.old.source.now) n (S.left self.new.source.now)) }
+        ensures ok_offset { OnOk result (self.new.offset ≡ self.old.offset + n) }
+
+        ensures end { (have : ℕ) → result ≡ Err (FillFault.End have) → (have < n) × Passes (S.left self.old.source.now) have (S.left self.new.source.now) × IsAtEnd (S.left self.new.source.now) }
+        ensures end_offset { (have : ℕ) → result ≡ Err (FillFault.End have) → self.new.offset ≡ self.old.offset + have }
+
+        // Where the source tells its bytes and does not fail, their number decides.
+        ensures enough { result ≢ Err FillFault.Read → IfSome (S.left self.old.source.now) (λ all. IsOk result ↔ (n ≤ length all)) }
+        ensures few { (have : ℕ) → result ≢ Err FillFault.Read → IfSome (S.left self.old.source.now) (λ all. (result ≡ Err (FillFault.End have)) ↔ ((have ≡ length all) × (have < n))) }
+
+        ensures read { result ≡ Err FillFault.Read → HasRisen (S.faults self.old.source.now) (S.faults self.new.source.now) }
+
+        ensures empty { block.new.bytes ≡ [] }
+        ensures reads { S.reads self.new.source.now ≤ S.reads self.old.source.now + (n + 1) }
+        ensures counts { S.faults self.old.source.now ≤ S.faults self.new.source.now }
+        ensures capacity { block.new.capacity ≡ block.old.capacity }
+        ensures same_reference { self.new.source.ghost_name ≡ self.old.source.ghost_name }
+    {
+        let have = match block.pass_over(self.source, n) {
+            Ok(have) => have,
+            Err(Failed) => return Err(FillFault::Read),
+        };
+        self.offset += have;
+        if have < n {
+            return Err(FillFault::End { have });
         }
         Ok(())
     }
