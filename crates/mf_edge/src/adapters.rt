@@ -1,6 +1,7 @@
 //! Devices over readers and writers of std. They tell no bytes.
 
-ghost use Rattle.std.specs.Prelude.{◌≡◌};
+ghost use Rattle.std.specs.Prelude.{◌≡◌, ◌+◌, ◌≤◌, [], length, IfOk, OnOk, OnErr, Ok};
+ghost use Rattle.mf_edge.specs.Device.{HasRisen};
 
 use crate::{Count, Failed, Sink, Source};
 use std::io::{Read, Write};
@@ -44,7 +45,15 @@ impl<R: Read> Source for ReadSource<R> {
 
     ghost reads = { λ s. s.reads };
 
-    fn read(&mut self, out: &mut [u8]) -> Result<usize, Failed> {
+    fn read(&mut self, out: &mut [u8]) -> Result<usize, Failed>
+        ensures within { IfOk result (λ n. n ≤ length out.new) }
+
+        ensures failed { OnErr result (HasRisen self.old.faults self.new.faults) }
+
+        ensures same_faults { OnOk result (self.new.faults ≡ self.old.faults) }
+        ensures counts { self.old.faults ≤ self.new.faults }
+        ensures one_read { self.new.reads ≡ self.old.reads + 1 }
+    {
         self.reads.add_one();
         match self.reader.read(out) {
             Ok(n) => Ok(n),
@@ -88,7 +97,15 @@ impl<W: Write> Sink for WriteSink<W> {
 
     ghost faults = { λ s. s };
 
-    fn write(&mut self, bytes: &[u8]) -> Result<usize, Failed> {
+    fn write(&mut self, bytes: &[u8]) -> Result<usize, Failed>
+        ensures within { IfOk result (λ n. n ≤ length bytes.now) }
+        ensures some { result ≡ Ok 0 → bytes.now ≡ [] }
+
+        ensures failed { OnErr result (HasRisen self.old self.new) }
+
+        ensures same_faults { OnOk result (self.new ≡ self.old) }
+        ensures counts { self.old ≤ self.new }
+    {
         match self.writer.write(bytes) {
             Ok(n) if n > 0 || bytes.is_empty() => Ok(n),
             _ => {

@@ -143,6 +143,19 @@ mod tests {
     }
 
     #[test]
+    fn bytes_are_passed_over(rt: HostRuntime) -> Result<(), Fail> {
+        let mut source = SureSource::new(rt.alloc(), b"abcdefg", 2)?;
+        let mut block = Block::new(rt.alloc(), 3)?;
+        let mut stream = Stream::new(&mut source);
+        assert_eq!(rt; stream.skip(&mut block, 4), Ok(()));
+        assert_eq!(rt; stream.fill(&mut block, 1), Ok(()));
+        assert_eq!(rt; block.bytes(), b"e".as_slice());
+        assert_eq!(rt; stream.skip(&mut block, 5), Err(FillFault::End { have: 2 }));
+        assert_eq!(rt; stream.offset(), 7);
+        Ok(())
+    }
+
+    #[test]
     fn a_read_fails_in_a_block(rt: HostRuntime) -> Result<(), Fail> {
         let mut source = MemSource::new(rt.alloc(), b"abcdefg", 2, &[3])?;
         let mut block = Block::new(rt.alloc(), 4)?;
