@@ -1,0 +1,109 @@
+-- The first of whole varints, and how many they are.
+use Rattle.std.proofs.Common.{◌≡◌, ◌≢◌, ◌⊎◌, ◌<◌, ◌≤◌, ◌^◌, ◌&&◌, ◌+◌, ◌-◌, ℕ, suc, List, [], ◌∷◌, ◌++◌, length, take, drop, map, refl, sym, ap, subst, ◌∙◌, arith, inl, inr, Bool, true, false, cond, Ok, Err, Result, nat_lt}
+use Rattle.std.specs.List.{list_all, count_by}
+use Rattle.std.proofs.lemmas.Bool.{cases_lt, cases_Bool, lt-ltb, le-ltb, le-leb, eq-eqb, and_from}
+use Rattle.std.proofs.lemmas.List.{take-append-drop, append-nil, nil_from_length, drop-drop, length-drop}
+use Rattle.std.proofs.lemmas.List.Sums.{sum_by-append}
+use Rattle.mf_base.specs.Spelling.{IsVarint, high_run, sevens}
+use Rattle.mf_base.specs.NumberReading.{varint_front, read_at}
+use Rattle.mf_base.specs.declared.number.VarintFault.{VarintFault}
+use Rattle.mf_base.proofs.Runs.{high_run-low, high_run-high}
+use Rattle.mf_base.proofs.NumberLemmas.{varint_reads, varint_found}
+use Rattle.mf_base.proofs.StepLaws.{ok_is, err_is_no_ok}
+use Rattle.osm_model.specs.Wire.{runs, is_varint, are_varints, packed_numbers, IsPacked}
+use Rattle.osm_model.proofs.PackedLaws.{packed_found, runs-nil, runs-append}
+
+-- what is read at a place is what stands in front there
+pub read-number : (at : ℕ) (front : Result (ℕ × ℕ) VarintFault) (n end : ℕ) → Ok (n, end) ≡ read_at at front → front ≡ Ok (n, end - at)
+read-number at (Ok found) n end e =
+    let pair = ok_is _ _ e in
+    let size : end - at ≡ found.1 = omega (arith, ap (λ (p : ℕ × ℕ). p.1) pair) in
+    let number : n ≡ found.0 = ap (λ (p : ℕ × ℕ). p.0) pair in
+    sym (ap (λ m. Ok (m, end - at)) number ∙ ap (λ m. Ok (found.0, m)) size)
+read-number at (Err fault) n end e = absurd (err_is_no_ok fault (n, end) (sym e))
+
+pub read-first : (bytes : List ℕ) (n size : ℕ) → Ok (n, size) ≡ read_at 0 (varint_front bytes) → varint_front bytes ≡ Ok (n, size)
+read-first bytes n size e = let whole : size - 0 ≡ size = omega arith in read-number 0 (varint_front bytes) n size e ∙ ap (λ k. Ok (n, k)) whole
+
+pub read-fault : (at : ℕ) (front : Result (ℕ × ℕ) VarintFault) (fault : VarintFault) → Err fault ≡ read_at at front → front ≡ Err fault
+read-fault at (Ok found) fault e = absurd (err_is_no_ok _ _ e)
+read-fault at (Err other) fault e = sym e
+
+first_run_of : (bytes : List ℕ) (n size : ℕ) → varint_front bytes ≡ Ok (n, size) → runs bytes ≡ take size bytes ∷ runs (drop size bytes)
+first_run_of bytes n size e = let found = varint_found bytes n size e in ap runs (sym (take-append-drop size bytes)) ∙ runs-append (take size bytes) (drop size bytes) found.spelled.run
+
+pub numbers-first : (bytes : List ℕ) (n size : ℕ) → varint_front bytes ≡ Ok (n, size) → packed_numbers bytes ≡ n ∷ packed_numbers (drop size bytes)
+numbers-first bytes n size e =
+    let found = varint_found bytes n size e in
+    ap (map sevens) (first_run_of bytes n size e) ∙ ap (λ k. k ∷ packed_numbers (drop size bytes)) (sym found.spelled.value)
+
+varint-is : (n : ℕ) (b : List ℕ) → IsVarint n b → is_varint b ≡ true
+varint-is n b v = and_from _ _ (and_from _ _ (eq-eqb _ _ v.run) (le-leb _ _ v.short)) (lt-ltb _ _ (subst (λ k. k < 2 ^ 64) v.value v.fits))
+
+pub whole-first : (bytes : List ℕ) (n size : ℕ) → varint_front bytes ≡ Ok (n, size) → are_varints bytes ≡ are_varints (drop size bytes)
+whole-first bytes n size e =
+    let found = varint_found bytes n size e in
+    ap (list_all is_varint) (first_run_of bytes n size e) ∙ ap (λ b. b && are_varints (drop size bytes)) (varint-is n (take size bytes) found.spelled)
+
+-- whole varints begin with one, unless there is none
+no_packed : (bytes ns : List ℕ) (fault : VarintFault) → IsPacked bytes ns → varint_front bytes ≡ Err fault → bytes ≡ []
+no_packed bytes [] fault e f = e
+no_packed bytes (n ∷ ns) fault (front, rest, v, more, whole) f = absurd (err_is_no_ok _ _ (sym f ∙ ap varint_front whole ∙ varint_reads n front rest v))
+
+pub whole-end : (bytes : List ℕ) (fault : VarintFault) → are_varints bytes ≡ true → varint_front bytes ≡ Err fault → bytes ≡ []
+whole-end bytes fault whole f = no_packed bytes (packed_numbers bytes) fault (packed_found bytes whole) f
+
+pub whole-no : (bytes : List ℕ) (fault : VarintFault) → 0 < length bytes → varint_front bytes ≡ Err fault → are_varints bytes ≡ false
+whole-no bytes fault some f = elim (cases_Bool (are_varints bytes)) [
+  | inl whole ↦ absurd (omega (arith, some, ap length (whole-end bytes fault whole f)))
+  | inr not ↦ not
+]
+
+pub whole-nil : are_varints [] ≡ true
+whole-nil = ap (list_all is_varint) runs-nil
+
+pub numbers-nil : packed_numbers [] ≡ []
+numbers-nil = ap (map sevens) runs-nil
+
+pub numbers-end : (bytes : List ℕ) (fault : VarintFault) → are_varints bytes ≡ true → Err fault ≡ read_at 0 (varint_front bytes) → packed_numbers bytes ≡ []
+numbers-end bytes fault whole e = ap packed_numbers (whole-end bytes fault whole (read-fault 0 (varint_front bytes) fault e)) ∙ numbers-nil
+
+-- ---- one number after another
+
+pub whole-next : (bytes : List ℕ) (at n end : ℕ) → Ok (n, end) ≡ read_at at (varint_front (drop at bytes)) → at < end → are_varints bytes ≡ are_varints (drop at bytes) → are_varints bytes ≡ are_varints (drop end bytes)
+whole-next bytes at n end read less so =
+    so ∙ whole-first (drop at bytes) n (end - at) (read-number at _ n end read)
+    ∙ ap are_varints (drop-drop (end - at) at bytes ∙ ap (λ k. drop k bytes) (omega (arith, less)))
+
+pub whole-not : (bytes : List ℕ) (at : ℕ) (fault : VarintFault) → Err fault ≡ read_at at (varint_front (drop at bytes)) → at < length bytes → are_varints bytes ≡ are_varints (drop at bytes) → false ≡ are_varints bytes
+whole-not bytes at fault read less so = sym (so ∙ whole-no (drop at bytes) fault (omega (arith, less, length-drop at bytes)) (read-fault at _ fault read))
+
+pub whole-all : (bytes : List ℕ) (at : ℕ) → length bytes ≤ at → are_varints bytes ≡ are_varints (drop at bytes) → true ≡ are_varints bytes
+whole-all bytes at past so = sym (so ∙ ap are_varints (nil_from_length (drop at bytes) (omega (arith, past, length-drop at bytes))) ∙ whole-nil)
+
+-- ---- their number
+
+-- how many bytes have no top bit
+abbrev pub low_bytes : List ℕ → ℕ
+low_bytes bytes = count_by (λ byte. nat_lt byte 128) bytes
+
+one_low : (b : List ℕ) → length b ≡ suc (high_run b) → low_bytes b ≡ 1
+one_low [] run = absurd (omega arith)
+one_low (b ∷ c) run = elim (cases_lt b 128) [
+  | inl low ↦
+      let none : c ≡ [] = nil_from_length c (omega (arith, run, high_run-low b c low)) in
+      rw none (rw (lt-ltb b 128 low) refl)
+  | inr high ↦
+      let rest = one_low c (omega (arith, run, high_run-high b c high)) in
+      rw (le-ltb b 128 high) (omega (arith, rest))
+]
+
+low_packed : (b ns : List ℕ) → IsPacked b ns → low_bytes b ≡ length ns
+low_packed b [] e = ap low_bytes e
+low_packed b (n ∷ ns) (front, rest, v, more, whole) =
+    let parts = sum_by-append (λ byte. cond (nat_lt byte 128) 1 0) front rest in
+    omega (arith, ap low_bytes whole, parts, one_low front v.run, low_packed rest ns more)
+
+-- whole varints are as many as bytes without the top bit
+pub count-whole : (bytes : List ℕ) → are_varints bytes ≡ true → low_bytes bytes ≡ length (packed_numbers bytes)
+count-whole bytes whole = low_packed bytes (packed_numbers bytes) (packed_found bytes whole)

@@ -1,0 +1,160 @@
+//! The fields of a message, one after another: Protocol Buffers, "Encoding", message structure.
+
+ghost use Rattle.std.specs.Prelude.{◌≡◌, ◌≢◌, ◌↔◌, ◌<◌, ◌≤◌, ℕ, List, [], length, IfOk, IfSome, OnErr};
+ghost use Rattle.mf_base.specs.Steps.{told_as};
+ghost use Rattle.osm_model.specs.Wire as wire;
+ghost use Rattle.osm_model.specs.Wire.{number_front, bytes_front, value_front, field_front, fields, len};
+ghost use Rattle.pbf_wire.specs.Shown.{ShowsValue, ShowsField, Gives, BeginsWith, GivesNext, fault_shown};
+
+use mf_base::varint::get_varint;
+use std::marker::Model;
+use thiserror::Error;
+
+/// Why the bytes left begin with no field: the first cause.
+#[derive(Clone, Copy, Debug, PartialEq, Eq, Error)]
+pub enum WireFault {
+    /// A varint is cut by the end, or is no number below 2^64 in ten bytes.
+    #[error("a varint is cut short or too long")]
+    Varint,
+    /// The field number is 0 or above 2^29 - 1, or the wire type is 3, 4, 6 or 7.
+    #[error("a field number or wire type that does not exist")]
+    Kind,
+    /// The bytes end within a value.
+    #[error("a value is cut short")]
+    Length,
+}
+
+/// The value of a field.
+#[derive(Clone, Copy, Debug)]
+pub enum Value<'a> {
+    /// Wire type 0, a varint.
+    Number(u64),
+    /// Wire type 2, the bytes behind their length.
+    Bytes(&'a [u8]),
+    /// Wire types 1 and 5, eight or four bytes, which this project reads nowhere.
+    Fixed,
+}
+
+/// A field: its number, in 1 to 2^29 - 1, and its value.
+#[derive(Clone, Copy, Debug)]
+pub struct Field<'a> {
+    pub number: u32,
+    pub value: Value<'a>,
+}
+
+/// Goes over the fields of a message. Contracts see the bytes that are left.
+#[derive(Drop)]
+pub struct Fields<'a> {
+    rest: &'a [u8],
+}
+
+impl<'a> Model for Fields<'a> {
+    ghost use Rattle.std.specs.Prelude.{List, ℕ};
+
+    ghost Value = { List ℕ };
+
+    ghost view = { λ s. s.rest.now };
+}
+
+impl<'a> Fields<'a> {
+    /// All fields of `bytes`.
+    pub fn new(bytes: &'a [u8]) -> Fields<'a>
+        ensures { result ≡ bytes.now }
+    {
+        Fields { rest: bytes }
+    }
+
+    /// The next field, or None after the last. After a fault the next call answers the same fault.
+    pub fn next(&mut self) -> Result<Option<Field<'a>>, WireFault>
+        ensures found { IfOk result (λ next. IfSome next (λ field. BeginsWith self.old field self.new)) }
+        ensures end { (result ≡ Ok None) ↔ (self.old ≡ []) }
+        ensures fault { (fault : WireFault) → (result ≡ Err fault) ↔ ((self.old ≢ []) × (field_front self.old ≡ Err (fault_shown fault))) }
+
+        // The same over the fields that are left.
+        ensures reads { GivesNext (fields self.old) result (fields self.new) }
+
+        // Nothing is passed over at the end or at a fault.
+        ensures ended { result ≡ Ok None → self.new ≡ self.old }
+        ensures again { OnErr result (self.new ≡ self.old) }
+    {
+        if self.rest.is_empty() {
+            return Ok(None);
+        }
+        let (field, size) = first_field(self.rest)?;
+        self.rest = &self.rest[size..];
+        Ok(Some(field))
+    }
+}
+
+// The field that the bytes begin with, and how many bytes it takes.
+fn first_field(bytes: &[u8]) -> Result<(Field<'_>, usize), WireFault>
+    ensures front { Gives ShowsField result (field_front bytes.now) }
+    ensures within { IfOk result (λ found. (0 < found.1) × (found.1 ≤ length bytes.now)) }
+{
+    let (key, at) = first_number(bytes)?;
+    let number = key / 8;
+    if number < 1 || number >= 536870912 {
+        return Err(WireFault::Kind);
+    }
+    let (value, size) = first_value(&bytes[at..], key % 8)?;
+    let field = Field {
+        number: number as u32,
+        value,
+    };
+    Ok((field, at + size))
+}
+
+// The varint that the bytes begin with, and how many bytes it takes.
+fn first_number(bytes: &[u8]) -> Result<(u64, usize), WireFault>
+    ensures front { told_as fault_shown result ≡ number_front bytes.now }
+    ensures within { IfOk result (λ found. (0 < found.1) × (found.1 ≤ length bytes.now)) }
+{
+    match get_varint(bytes, 0) {
+        Ok(found) => Ok(found),
+        Err(_) => Err(WireFault::Varint),
+    }
+}
+
+// The value of this wire type that the bytes begin with, and how many bytes it takes.
+fn first_value(bytes: &[u8], kind: u64) -> Result<(Value<'_>, usize), WireFault>
+    ensures front { Gives ShowsValue result (value_front kind bytes.now) }
+    ensures within { IfOk result (λ found. found.1 ≤ length bytes.now) }
+{
+    match kind {
+        0 => {
+            let (number, size) = first_number(bytes)?;
+            Ok((Value::Number(number), size))
+        }
+        1 => fixed_of(bytes, 8),
+        2 => {
+            let (count, at) = first_number(bytes)?;
+            bytes_of(bytes, at, count)
+        }
+        5 => fixed_of(bytes, 4),
+        _ => Err(WireFault::Kind),
+    }
+}
+
+// So many bytes, which nobody reads.
+fn fixed_of(bytes: &[u8], count: usize) -> Result<(Value<'_>, usize), WireFault>
+    ensures front { (kind : List ℕ → wire.Value) → ((fixed : List ℕ) → ShowsValue Value.Fixed (kind fixed)) → Gives ShowsValue result (bytes_front kind count 0 bytes.now) }
+    ensures within { IfOk result (λ found. found.1 ≤ length bytes.now) }
+{
+    if bytes.len() < count {
+        return Err(WireFault::Length);
+    }
+    Ok((Value::Fixed, count))
+}
+
+// So many bytes from a place on, and where they end.
+fn bytes_of(bytes: &[u8], at: usize, count: u64) -> Result<(Value<'_>, usize), WireFault>
+    requires { at ≤ length bytes.now }
+    ensures front { Gives ShowsValue result (bytes_front len count at bytes.now) }
+    ensures within { IfOk result (λ found. found.1 ≤ length bytes.now) }
+{
+    if ((bytes.len() - at) as u64) < count {
+        return Err(WireFault::Length);
+    }
+    let end = at + count as usize;
+    Ok((Value::Bytes(&bytes[at..end]), end))
+}

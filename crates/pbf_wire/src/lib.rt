@@ -1,0 +1,10 @@
+//! Messages of the wire format: fields, packed lists, and the check of a message against a table of field rules.
+//!
+//! Read `fields` first, then `packed`, `rules`, `check` and `tables`.
+#![tactic(auto)]
+
+pub mod fields;
+pub mod packed;
+pub mod rules;
+pub mod check;
+pub mod tables;

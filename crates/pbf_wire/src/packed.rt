@@ -1,0 +1,89 @@
+//! Packed lists of varints: Protocol Buffers, "Encoding", packed fields.
+
+ghost use Rattle.std.specs.Prelude.{◌≡◌, true, drop, length, slice_get, option_map, count_by, nat_lt};
+ghost use Rattle.mf_base.specs.Spelling.{unzigzag_of};
+ghost use Rattle.osm_model.specs.Wire.{are_varints, packed_numbers};
+
+use mf_base::varint::get_varint;
+use mf_base::zigzag::unzigzag;
+use std::marker::Model;
+
+/// Goes over the numbers of a packed list. Contracts see the numbers that are left.
+#[derive(Drop)]
+pub struct Packed<'a> {
+    rest: &'a [u8],
+}
+
+impl<'a> Model for Packed<'a> {
+    ghost use Rattle.std.specs.Prelude.{List, ℕ, ◌≡◌, true};
+    ghost use Rattle.osm_model.specs.Wire.{are_varints, packed_numbers};
+
+    ghost Value = { List ℕ };
+
+    ghost view = { λ s. packed_numbers s.rest.now };
+
+    ghost invariant = { λ s. are_varints s.rest.now ≡ true };
+}
+
+impl<'a> Packed<'a> {
+    /// The numbers that `bytes` spell, which are whole varints: `check_message` sees to it.
+    pub fn new(bytes: &'a [u8]) -> Packed<'a>
+        requires whole { are_varints bytes.now ≡ true }
+        ensures { result ≡ packed_numbers bytes.now }
+    {
+        Packed { rest: bytes }
+    }
+
+    /// The next number, or None after the last.
+    pub fn next_u64(&mut self) -> Option<u64>
+        ensures first { result ≡ slice_get self.old 0 }
+        ensures rest { self.new ≡ drop 1 self.old }
+    {
+        match get_varint(self.rest, 0) {
+            Ok((number, size)) => {
+                self.rest = &self.rest[size..];
+                Some(number)
+            }
+            Err(_) => None,
+        }
+    }
+
+    /// The next number as a sint64, or None after the last.
+    pub fn next_s64(&mut self) -> Option<i64>
+        ensures first { result ≡ option_map unzigzag_of (slice_get self.old 0) }
+        ensures rest { self.new ≡ drop 1 self.old }
+    {
+        match self.next_u64() {
+            Some(number) => Some(unzigzag(number)),
+            None => None,
+        }
+    }
+
+    /// How many numbers are left. It goes over all bytes that are left.
+    pub fn count(&self) -> u64
+        ensures { result ≡ length self.now }
+    {
+        low_bytes(self.rest)
+    }
+}
+
+// How many bytes have no top bit.
+fn low_bytes(bytes: &[u8]) -> u64
+    ensures { result ≡ count_by (λ byte. nat_lt byte 128) bytes.now }
+{
+    bytes.iter().filter(|byte| **byte < 128).count() as u64
+}
+
+/// Whether bytes are whole varints.
+pub fn is_whole(bytes: &[u8]) -> bool
+    ensures { result ≡ are_varints bytes.now }
+{
+    let mut at = 0;
+    while at < bytes.len() {
+        match get_varint(bytes, at) {
+            Ok((_, end)) => at = end,
+            Err(_) => return false,
+        }
+    }
+    true
+}
