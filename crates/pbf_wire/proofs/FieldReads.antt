@@ -1,11 +1,11 @@
 -- The field in front of bytes, step by step.
-use Rattle.std.proofs.Common.{◌≡◌, ◌⊎◌, ℕ, ◌+◌, ◌-◌, take, length, sym, ap, ◌∙◌, Result, Option, [], ◌∷◌, ◌/◌, ◌%◌, ◌<◌, ◌≤◌, ◌^◌, ◌&&◌, List, drop, refl, arith, subst, inl, inr, true, false, Ok, Err, nat_lt, nat_le}
+use Rattle.std.proofs.Common.{◌≡◌, ◌⊎◌, ℕ, ◌+◌, ◌-◌, take, length, sym, Result, Option, [], ◌∷◌, ◌/◌, ◌%◌, ◌<◌, ◌≤◌, ◌^◌, ◌&&◌, List, drop, refl, arith, subst, inl, inr, true, Ok, Err, nat_lt, nat_le}
 use Rattle.std.proofs.lemmas.Bool.{lt-ltb, le-leb, lt-leb, le-ltb, and_left, and_right}
 use Rattle.std.proofs.lemmas.List.{take_all, length-drop}
 use Rattle.pbf_wire.specs.declared.fields.WireFault as reader
 use Rattle.pbf_wire.specs.declared.fields.Field as reader_field
 use Rattle.pbf_wire.specs.Shown.{Gives, GivesNext, fault_shown}
-use Rattle.osm_model.specs.Wire.{Value, Field, WireFault, kind_fault, number_front, value_front, field_front, fields}
+use Rattle.osm_model.specs.Wire.{Value, WireFault, kind_fault, number_front, value_front, field_front, fields}
 use Rattle.osm_model.specs.Reading.{stops_at}
 use Rattle.osm_model.proofs.MessageLaws.{fields-stop}
 

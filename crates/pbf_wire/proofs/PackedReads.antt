@@ -1,8 +1,8 @@
 -- The first of whole varints, and how many they are.
-use Rattle.std.proofs.Common.{◌≡◌, ◌≢◌, ◌⊎◌, ◌<◌, ◌≤◌, ◌^◌, ◌&&◌, ◌+◌, ◌-◌, ℕ, suc, List, [], ◌∷◌, ◌++◌, length, take, drop, map, refl, sym, ap, subst, ◌∙◌, arith, inl, inr, Bool, true, false, cond, Ok, Err, Result, nat_lt}
+use Rattle.std.proofs.Common.{◌≡◌, ◌<◌, ◌≤◌, ◌^◌, ◌&&◌, ◌-◌, ℕ, suc, List, [], ◌∷◌, length, take, drop, map, refl, sym, ap, subst, ◌∙◌, arith, inl, inr, true, false, cond, Ok, Err, Result, nat_lt}
 use Rattle.std.specs.List.{list_all, count_by}
 use Rattle.std.proofs.lemmas.Bool.{cases_lt, cases_Bool, lt-ltb, le-ltb, le-leb, eq-eqb, and_from}
-use Rattle.std.proofs.lemmas.List.{take-append-drop, append-nil, nil_from_length, drop-drop, length-drop}
+use Rattle.std.proofs.lemmas.List.{take-append-drop, nil_from_length, drop-drop, length-drop}
 use Rattle.std.proofs.lemmas.List.Sums.{sum_by-append}
 use Rattle.mf_base.specs.Spelling.{IsVarint, high_run, sevens}
 use Rattle.mf_base.specs.NumberReading.{varint_front, read_at}

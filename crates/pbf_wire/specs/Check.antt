@@ -1,7 +1,6 @@
 -- What the check of a message answers, in the words of the definitions.
-use Rattle.std.specs.Prelude.{◌≡◌, ◌==◌, ℕ, Bool, false, List, position, slice_index_or, Option, Some, None, option_map, Result, Ok, Err}
+use Rattle.std.specs.Prelude.{◌≡◌, ◌==◌, ℕ, Bool, false, List, position, slice_index_or, Option, Some, None, Result, Ok, Err}
 use Rattle.std.specs.List.{list_any}
-use Rattle.osm_model.specs.Wire as model
 use Rattle.osm_model.specs.Tables as tables
 use Rattle.pbf_wire.specs.Shown.{fault_shown}
 use Rattle.pbf_wire.specs.declared.check.MessageFault.{MessageFault}

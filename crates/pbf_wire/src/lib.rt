@@ -3,8 +3,8 @@
 //! Read `fields` first, then `packed`, `rules`, `check` and `tables`.
 #![tactic(auto)]
 
+pub mod check;
 pub mod fields;
 pub mod packed;
 pub mod rules;
-pub mod check;
 pub mod tables;

@@ -21,8 +21,7 @@ returns-in_err-value-clause-front c =
 pub returns-clause-front : goal.returns-clause-front
 returns-clause-front c =
     let (value, shows, read) = (c.in_ok-value.ensures {u = tt}).front in
-    let front = sym (ap (value_front (c.in_ok-key.key % 8)) (behind c.args.bytes.now c.in_ok-key.at)) ∙ read in
-    (
+    let front = sym (ap (value_front (c.in_ok-key.key % 8)) (behind c.args.bytes.now c.in_ok-key.at)) ∙ read in (
       record { number = c.in_ok-key.key / 8; value = value },
       (refl, shows),
       front-field c.args.bytes.now _ _ value _ (sym (c.in_ok-key.ensures {u = tt}).front) c.if-number-lt1.false c.if-number-ge536870912.false front,

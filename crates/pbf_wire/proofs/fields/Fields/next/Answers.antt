@@ -1,4 +1,4 @@
-use Rattle.std.proofs.Common.{◌≡◌, ◌<◌, ◌∙◌, sym, ap, refl, subst, rules, arith, Err, [], Ok, length}
+use Rattle.std.proofs.Common.{◌≡◌, ◌<◌, ◌∙◌, sym, ap, refl, subst, rules, Err, [], length}
 use Rattle.std.proofs.lemmas.List.{nil_from_length}
 use Rattle.osm_model.specs.Wire.{fields, field_front}
 use Rattle.osm_model.specs.Reading.{then_reads}

@@ -1,4 +1,4 @@
-use Rattle.std.proofs.Common.{◌≡◌, ◌∙◌, ◌∷◌, [], sym, ap, drop, Ok}
+use Rattle.std.proofs.Common.{◌≡◌, ◌∙◌, [], sym, ap, drop}
 use Rattle.std.specs.Prelude.{slice_get}
 use Rattle.osm_model.specs.Wire.{are_varints, packed_numbers}
 use Rattle.pbf_wire.proofs.FieldReads.{behind}
