@@ -1,3 +1,4 @@
 pub mod FieldReads
 pub mod PackedReads
 pub mod CheckReads
+pub mod WholeReads

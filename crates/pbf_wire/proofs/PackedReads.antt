@@ -68,19 +68,6 @@ numbers-nil = ap (map sevens) runs-nil
 pub numbers-end : (bytes : List ℕ) (fault : VarintFault) → are_varints bytes ≡ true → Err fault ≡ read_at 0 (varint_front bytes) → packed_numbers bytes ≡ []
 numbers-end bytes fault whole e = ap packed_numbers (whole-end bytes fault whole (read-fault 0 (varint_front bytes) fault e)) ∙ numbers-nil
 
--- ---- one number after another
-
-pub whole-next : (bytes : List ℕ) (at n end : ℕ) → Ok (n, end) ≡ read_at at (varint_front (drop at bytes)) → at < end → are_varints bytes ≡ are_varints (drop at bytes) → are_varints bytes ≡ are_varints (drop end bytes)
-whole-next bytes at n end read less so =
-    so ∙ whole-first (drop at bytes) n (end - at) (read-number at _ n end read)
-    ∙ ap are_varints (drop-drop (end - at) at bytes ∙ ap (λ k. drop k bytes) (omega (arith, less)))
-
-pub whole-not : (bytes : List ℕ) (at : ℕ) (fault : VarintFault) → Err fault ≡ read_at at (varint_front (drop at bytes)) → at < length bytes → are_varints bytes ≡ are_varints (drop at bytes) → false ≡ are_varints bytes
-whole-not bytes at fault read less so = sym (so ∙ whole-no (drop at bytes) fault (omega (arith, less, length-drop at bytes)) (read-fault at _ fault read))
-
-pub whole-all : (bytes : List ℕ) (at : ℕ) → length bytes ≤ at → are_varints bytes ≡ are_varints (drop at bytes) → true ≡ are_varints bytes
-whole-all bytes at past so = sym (so ∙ ap are_varints (nil_from_length (drop at bytes) (omega (arith, past, length-drop at bytes))) ∙ whole-nil)
-
 -- ---- their number
 
 -- how many bytes have no top bit

@@ -109,6 +109,10 @@ fn first_number(bytes: &[u8]) -> Result<(u64, usize), WireFault>
     ensures front { told_as fault_shown result ≡ number_front bytes.now }
     ensures within { IfOk result (λ found. (0 < found.1) × (found.1 ≤ length bytes.now)) }
 {
+    // Most keys and lengths take one byte.
+    if !bytes.is_empty() && bytes[0] < 128 {
+        return Ok((u64::from(bytes[0]), 1));
+    }
     match get_varint(bytes, 0) {
         Ok(found) => Ok(found),
         Err(_) => Err(WireFault::Varint),

@@ -71,19 +71,26 @@ impl<'a> Packed<'a> {
 fn low_bytes(bytes: &[u8]) -> u64
     ensures { result ≡ count_by (λ byte. nat_lt byte 128) bytes.now }
 {
-    bytes.iter().filter(|byte| **byte < 128).count() as u64
+    let mut count = 0;
+    for byte in bytes {
+        if *byte < 128 {
+            count += 1;
+        }
+    }
+    count
 }
 
-/// Whether bytes are whole varints.
+/// Whether bytes are whole varints: of at most ten bytes, of which the tenth is 0 or 1.
 pub fn is_whole(bytes: &[u8]) -> bool
     ensures { result ≡ are_varints bytes.now }
 {
-    let mut at = 0;
-    while at < bytes.len() {
-        match get_varint(bytes, at) {
-            Ok((_, end)) => at = end,
-            Err(_) => return false,
+    // How many bytes with the top bit stand before.
+    let mut run = 0u32;
+    for byte in bytes {
+        if run == 9 && *byte > 1 {
+            return false;
         }
+        run = if *byte < 128 { 0 } else { run + 1 };
     }
-    true
+    run == 0
 }

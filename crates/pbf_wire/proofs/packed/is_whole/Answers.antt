@@ -1,11 +1,24 @@
-use Rattle.pbf_wire.proofs.PackedReads.{whole-next, whole-not, whole-all}
+use Rattle.std.proofs.Common.{◌≡◌, ◌≤◌, ◌+◌, arith, refl, sym, subst, get_or, ℕ}
+use Rattle.pbf_wire.proofs.WholeReads.{WholeSoFar, whole-low, whole-high, whole-no_tenth, whole-ends}
 use Rattle.pbf_wire.proofs.packed.is_whole.Goals as goal
+use Rattle.pbf_wire.proofs.packed.is_whole.Goals.{else-run-eq9-via-then-run-eq9+else-byte-gt1, else-run-eq9-via-else-run-eq9, then-byte-lt128, else-byte-lt128}
 
-pub loop-at-preserved : goal.loop-at-preserved
-loop-at-preserved c = whole-next c.args.bytes.now c.loop-at.at c.in-Ok.field-0-0 c.in-Ok.end c.in-Ok.ensures.exact c.in-Ok.ensures.found.0 c.loop-at.invariant
+pub returns-then-byte-gt1 : goal.returns-then-byte-gt1
+returns-then-byte-gt1 c = whole-no_tenth c.args.bytes.now _ _ _ c.loop-byte.invariant c.loop-byte-test.true c.if-run-eq9.true refl c.if-byte-gt1.true
 
-pub returns-in-Err : goal.returns-in-Err
-returns-in-Err c = whole-not c.args.bytes.now c.loop-at.at c.in-Err.field-0 c.in-Err.ensures.exact c.loop-at-test.true c.loop-at.invariant
+pub loop-byte-preserved : goal.loop-byte-preserved
+loop-byte-preserved c =
+    let bytes = c.args.bytes.now in
+    let at = c.loop-byte.byte-index in
+    let small = c.type_inv.bytes at in
+    let tenth : c.loop-byte.run ≡ 9 → get_or bytes at 0 ≤ 1 = elim c.else-run-eq9.branch [
+      | else-run-eq9-via-then-run-eq9+else-byte-gt1 w ↦ λ (nine : c.loop-byte.run ≡ 9). omega (arith, w.if-byte-gt1.false)
+      | else-run-eq9-via-else-run-eq9 w ↦ λ (nine : c.loop-byte.run ≡ 9). absurd (omega (arith, nine, w.if-run-eq9.false))
+    ] in
+    elim c.if-byte-lt128.branch [
+      | then-byte-lt128 w ↦ subst (WholeSoFar bytes (at + 1)) (sym w.run-is) (whole-low bytes at _ _ c.loop-byte.invariant c.loop-byte-test.true tenth refl w.if-byte-lt128.true)
+      | else-byte-lt128 w ↦ subst (WholeSoFar bytes (at + 1)) (sym w.run-is) (whole-high bytes at _ _ c.loop-byte.invariant c.loop-byte-test.true tenth refl w.if-byte-lt128.false (omega (arith, small)))
+    ]
 
 pub returns : goal.returns
-returns c = whole-all c.args.bytes.now c.loop-at.at c.loop-at-test.false c.loop-at.invariant
+returns c = whole-ends c.args.bytes.now _ _ c.loop-byte.invariant c.loop-byte-test.false
