@@ -114,3 +114,94 @@ fn check_bytes(form: Form, again: bool, field: u32, bytes: &[u8]) -> Result<(), 
         Form::Packed => Err(MessageFault::Wire(WireFault::Varint)),
     }
 }
+
+#[cfg(test)]
+mod tests {
+    use super::{MessageFault, check_message};
+    use crate::fields::WireFault;
+    use crate::tables::{BLOB_HEADER, NODE, STRING_TABLE};
+
+    const VARINT: MessageFault = MessageFault::Wire(WireFault::Varint);
+
+    const KIND: MessageFault = MessageFault::Wire(WireFault::Kind);
+
+    const LENGTH: MessageFault = MessageFault::Wire(WireFault::Length);
+
+    // Bytes as a Node: fields 1, 8 and 9 are numbers, 2 and 3 packed lists. Of each two faults of a field the one that counts.
+    const NODES: [(&[u8], Result<(), MessageFault>); 21] = [
+        (b"", Ok(())),
+        (
+            b"\x08\x01\x12\x02\x80\x01\x1A\x01\x05\x40\x00\x48\x00",
+            Ok(()),
+        ),
+        // A number that comes twice, and an empty packed list.
+        (b"\x08\x01\x08\x02", Ok(())),
+        (b"\x12\x00", Ok(())),
+        // Fields that are not in the table, of every type, and twice.
+        (
+            b"\x20\x05\x21\x00\x00\x00\x00\x00\x00\x00\x00\x22\x01\x80\x25\x00\x00\x00\x00\x22\x01\x80",
+            Ok(()),
+        ),
+        (b"\x23", Err(KIND)),
+        (b"\x22\x02A", Err(LENGTH)),
+        // Another wire type.
+        (b"\x0A\x00", Err(MessageFault::Form { field: 1 })),
+        (
+            b"\x09\x00\x00\x00\x00\x00\x00\x00\x00",
+            Err(MessageFault::Form { field: 1 }),
+        ),
+        (
+            b"\x0D\x00\x00\x00\x00",
+            Err(MessageFault::Form { field: 1 }),
+        ),
+        (b"\x10\x01", Err(MessageFault::Form { field: 2 })),
+        // A value that is cut comes before its form.
+        (b"\x0A\x05A", Err(LENGTH)),
+        (b"\x10\x80", Err(VARINT)),
+        // A packed list twice; its form comes before, and its bytes after.
+        (b"\x12\x00\x12\x00", Err(MessageFault::Twice { field: 2 })),
+        (b"\x12\x00\x10\x01", Err(MessageFault::Form { field: 2 })),
+        (
+            b"\x12\x00\x12\x01\x80",
+            Err(MessageFault::Twice { field: 2 }),
+        ),
+        (
+            b"\x12\x00\x1A\x00\x1A\x00",
+            Err(MessageFault::Twice { field: 3 }),
+        ),
+        // Packed lists that are no whole varints.
+        (b"\x12\x01\x80", Err(VARINT)),
+        (
+            b"\x12\x0A\x80\x80\x80\x80\x80\x80\x80\x80\x80\x02",
+            Err(VARINT),
+        ),
+        // The first field with a fault.
+        (b"\x0A\x00\x00", Err(MessageFault::Form { field: 1 })),
+        (b"\x08\x01\x00\x0A\x00", Err(KIND)),
+    ];
+
+    #[test]
+    fn nodes(rt: HostRuntime) {
+        for (bytes, want) in NODES {
+            assert_eq!(rt; check_message(bytes, &NODE), want, "of {bytes:?}");
+        }
+    }
+
+    #[test]
+    fn bytes_once_and_often(rt: HostRuntime) {
+        let twice = b"\x0A\x01A\x0A\x01A";
+        assert_eq!(rt;
+            check_message(twice, &BLOB_HEADER),
+            Err(MessageFault::Twice { field: 1 })
+        );
+        assert_eq!(rt; check_message(twice, &STRING_TABLE), Ok(()));
+        assert_eq!(rt;
+            check_message(b"\x0A\x01\x80\x18\x05", &BLOB_HEADER),
+            Ok(())
+        );
+        assert_eq!(rt;
+            check_message(b"\x08\x01", &BLOB_HEADER),
+            Err(MessageFault::Form { field: 1 })
+        );
+    }
+}

@@ -25,7 +25,7 @@ pub enum WireFault {
 }
 
 /// The value of a field.
-#[derive(Clone, Copy, Debug)]
+#[derive(Clone, Copy, Debug, PartialEq, Eq)]
 pub enum Value<'a> {
     /// Wire type 0, a varint.
     Number(u64),
@@ -36,7 +36,7 @@ pub enum Value<'a> {
 }
 
 /// A field: its number, in 1 to 2^29 - 1, and its value.
-#[derive(Clone, Copy, Debug)]
+#[derive(Clone, Copy, Debug, PartialEq, Eq)]
 pub struct Field<'a> {
     pub number: u32,
     pub value: Value<'a>,
@@ -161,4 +161,123 @@ fn bytes_of(bytes: &[u8], at: usize, count: u64) -> Result<(Value<'_>, usize), W
     }
     let end = at + count as usize;
     Ok((Value::Bytes(&bytes[at..end]), end))
+}
+
+#[cfg(test)]
+mod tests {
+    use super::{Field, Fields, Value, WireFault};
+
+    const MOST: u64 = 18446744073709551615;
+
+    // Protocol Buffers, "Encoding": bytes, and the number and value of the field that they begin with.
+    const FIELDS: [(&[u8], u32, Value); 13] = [
+        (b"\x08\x96\x01", 1, Value::Number(150)),
+        (b"\x12\x07testing", 2, Value::Bytes(b"testing")),
+        (b"\x09\x00\x00\x00\x00\x00\x00\x00\x80", 1, Value::Fixed),
+        (b"\x0D\x00\x00\x00\x80", 1, Value::Fixed),
+        (b"\x08\x00\x00", 1, Value::Number(0)),
+        (b"\x12\x00\x08", 2, Value::Bytes(b"")),
+        // Longer spellings of a key, a number and a length.
+        (b"\x88\x00\x81\x80\x00", 1, Value::Number(1)),
+        (b"\x0A\x81\x00A", 1, Value::Bytes(b"A")),
+        (
+            b"\x88\x80\x80\x80\x80\x80\x80\x80\x80\x00\x05",
+            1,
+            Value::Number(5),
+        ),
+        // Numbers of ten bytes, and the greatest.
+        (
+            b"\x08\x80\x80\x80\x80\x80\x80\x80\x80\x80\x00",
+            1,
+            Value::Number(0),
+        ),
+        (
+            b"\x08\xFF\xFF\xFF\xFF\xFF\xFF\xFF\xFF\xFF\x01",
+            1,
+            Value::Number(MOST),
+        ),
+        // The greatest field number, and one of two bytes.
+        (b"\xF8\xFF\xFF\xFF\x0F\x07", 536870911, Value::Number(7)),
+        (b"\x88\x01\x64", 17, Value::Number(100)),
+    ];
+
+    #[test]
+    fn first_fields(rt: HostRuntime) {
+        for (bytes, number, value) in FIELDS {
+            let want = Field { number, value };
+            assert_eq!(rt; Fields::new(bytes).next(), Ok(Some(want)), "of {bytes:?}");
+        }
+    }
+
+    // Bytes that begin with no field, and the first fault; of each two faults that may stand together, the one that counts.
+    const FAULTS: [(&[u8], WireFault); 22] = [
+        (b"\x80", WireFault::Varint),
+        (
+            b"\x88\x80\x80\x80\x80\x80\x80\x80\x80\x02\x05",
+            WireFault::Varint,
+        ),
+        (
+            b"\x80\x80\x80\x80\x80\x80\x80\x80\x80\x80\x00",
+            WireFault::Varint,
+        ),
+        // A key of ten bytes whose tenth is 1.
+        (
+            b"\x88\x80\x80\x80\x80\x80\x80\x80\x80\x01\x05",
+            WireFault::Kind,
+        ),
+        (b"\x00\x00", WireFault::Kind),
+        (b"\x80\x80\x80\x80\x10\x07", WireFault::Kind),
+        (b"\x0B", WireFault::Kind),
+        (b"\x0C", WireFault::Kind),
+        (b"\x0E\x00", WireFault::Kind),
+        (b"\x0F\x00", WireFault::Kind),
+        // A number that does not exist before a varint that is cut, and before bytes that end.
+        (b"\x00\x80", WireFault::Kind),
+        (b"\x02\x05", WireFault::Kind),
+        (b"\x06", WireFault::Kind),
+        (b"\x08", WireFault::Varint),
+        (
+            b"\x08\xFF\xFF\xFF\xFF\xFF\xFF\xFF\xFF\xFF\x02",
+            WireFault::Varint,
+        ),
+        (b"\x0A", WireFault::Varint),
+        // A length that is no number before bytes that end.
+        (
+            b"\x0A\xFF\xFF\xFF\xFF\xFF\xFF\xFF\xFF\xFF\x02A",
+            WireFault::Varint,
+        ),
+        (b"\x0A\x02A", WireFault::Length),
+        (
+            b"\x0A\xFF\xFF\xFF\xFF\xFF\xFF\xFF\xFF\xFF\x01A",
+            WireFault::Length,
+        ),
+        (b"\x09\x00\x00\x00\x00\x00\x00\x00", WireFault::Length),
+        (b"\x0D\x00\x00\x00", WireFault::Length),
+        (b"\x0D", WireFault::Length),
+    ];
+
+    #[test]
+    fn first_faults(rt: HostRuntime) {
+        for (bytes, fault) in FAULTS {
+            let mut fields = Fields::new(bytes);
+            assert_eq!(rt; fields.next(), Err(fault), "of {bytes:?}");
+            assert_eq!(rt; fields.next(), Err(fault), "again, of {bytes:?}");
+        }
+    }
+
+    #[test]
+    fn one_after_another(rt: HostRuntime) {
+        let mut fields = Fields::new(b"\x08\x05\x15\x00\x00\x00\x80\x1A\x01A\x08\x07");
+        for (number, value) in [
+            (1, Value::Number(5)),
+            (2, Value::Fixed),
+            (3, Value::Bytes(b"A")),
+            (1, Value::Number(7)),
+        ] {
+            let want = Field { number, value };
+            assert_eq!(rt; fields.next(), Ok(Some(want)));
+        }
+        assert_eq!(rt; fields.next(), Ok(None));
+        assert_eq!(rt; fields.next(), Ok(None));
+    }
 }

@@ -94,3 +94,60 @@ pub fn is_whole(bytes: &[u8]) -> bool
     }
     run == 0
 }
+
+#[cfg(test)]
+mod tests {
+    use super::{Packed, is_whole};
+
+    const MOST: u64 = 18446744073709551615;
+
+    const LEAST: i64 = -9223372036854775808;
+
+    // A list, and its numbers as uint64 and as sint64.
+    const LISTS: [(&[u8], &[(u64, i64)]); 4] = [
+        (b"", &[]),
+        (b"\x00\x01\x02\x03", &[(0, 0), (1, -1), (2, 1), (3, -2)]),
+        (b"\x80\x00\xAC\x02", &[(0, 0), (300, 150)]),
+        (
+            b"\xFF\xFF\xFF\xFF\xFF\xFF\xFF\xFF\xFF\x01\x7F",
+            &[(MOST, LEAST), (127, -64)],
+        ),
+    ];
+
+    #[test]
+    fn numbers(rt: HostRuntime) {
+        for (bytes, want) in LISTS {
+            assert!(rt; is_whole(bytes));
+            let mut list = Packed::new(bytes);
+            let mut signed = Packed::new(bytes);
+            assert_eq!(rt; list.count(), want.len() as u64);
+            for (number, value) in want {
+                assert_eq!(rt; list.next_u64(), Some(*number));
+                assert_eq!(rt; signed.next_s64(), Some(*value));
+            }
+            assert_eq!(rt; list.count(), 0);
+            assert_eq!(rt; list.next_u64(), None);
+            assert_eq!(rt; signed.next_s64(), None);
+        }
+    }
+
+    // Bytes, and whether they are whole varints.
+    const WHOLE: [(&[u8], bool); 9] = [
+        (b"", true),
+        (b"\x00\x80\x01", true),
+        (b"\x80", false),
+        (b"\x00\x80", false),
+        (b"\x80\x80\x80\x80\x80\x80\x80\x80\x80\x00", true),
+        (b"\x80\x80\x80\x80\x80\x80\x80\x80\x80\x01\x00", true),
+        (b"\x80\x80\x80\x80\x80\x80\x80\x80\x80\x02", false),
+        (b"\x80\x80\x80\x80\x80\x80\x80\x80\x80\x80", false),
+        (b"\x80\x80\x80\x80\x80\x80\x80\x80\x80\x80\x00", false),
+    ];
+
+    #[test]
+    fn whole_varints(rt: HostRuntime) {
+        for (bytes, want) in WHOLE {
+            assert_eq!(rt; is_whole(bytes), want, "of {bytes:?}");
+        }
+    }
+}

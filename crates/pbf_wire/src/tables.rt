@@ -6,227 +6,46 @@ ghost use Rattle.pbf_wire.specs.Rules.{table_of};
 
 use crate::rules::{FieldRule, Form};
 
+// Rules, each as the number of a field and its form.
+macro_rules! rules {
+    ($($number:literal $form:ident),*) => {
+        [$(FieldRule { number: $number, form: Form::$form }),*]
+    };
+}
+
 /// BlobHeader: type, datasize.
-pub const BLOB_HEADER: [FieldRule; 2] = [
-    FieldRule {
-        number: 1,
-        form: Form::Once,
-    },
-    FieldRule {
-        number: 3,
-        form: Form::Number,
-    },
-];
+pub const BLOB_HEADER: [FieldRule; 2] = rules![1 Once, 3 Number];
 
 /// Blob: raw, raw_size, and the data of zlib, lzma, bzip2, lz4 and zstd.
-pub const BLOB: [FieldRule; 7] = [
-    FieldRule {
-        number: 1,
-        form: Form::Once,
-    },
-    FieldRule {
-        number: 2,
-        form: Form::Number,
-    },
-    FieldRule {
-        number: 3,
-        form: Form::Once,
-    },
-    FieldRule {
-        number: 4,
-        form: Form::Once,
-    },
-    FieldRule {
-        number: 5,
-        form: Form::Once,
-    },
-    FieldRule {
-        number: 6,
-        form: Form::Once,
-    },
-    FieldRule {
-        number: 7,
-        form: Form::Once,
-    },
-];
+pub const BLOB: [FieldRule; 7] = rules![1 Once, 2 Number, 3 Once, 4 Once, 5 Once, 6 Once, 7 Once];
 
 /// HeaderBlock: bbox, required_features.
-pub const HEADER_BLOCK: [FieldRule; 2] = [
-    FieldRule {
-        number: 1,
-        form: Form::Once,
-    },
-    FieldRule {
-        number: 4,
-        form: Form::Many,
-    },
-];
+pub const HEADER_BLOCK: [FieldRule; 2] = rules![1 Once, 4 Many];
 
 /// HeaderBBox: left, right, top, bottom.
-pub const HEADER_BBOX: [FieldRule; 4] = [
-    FieldRule {
-        number: 1,
-        form: Form::Number,
-    },
-    FieldRule {
-        number: 2,
-        form: Form::Number,
-    },
-    FieldRule {
-        number: 3,
-        form: Form::Number,
-    },
-    FieldRule {
-        number: 4,
-        form: Form::Number,
-    },
-];
+pub const HEADER_BBOX: [FieldRule; 4] = rules![1 Number, 2 Number, 3 Number, 4 Number];
 
 /// PrimitiveBlock: stringtable, primitivegroup, granularity, lat_offset, lon_offset.
-pub const PRIMITIVE_BLOCK: [FieldRule; 5] = [
-    FieldRule {
-        number: 1,
-        form: Form::Once,
-    },
-    FieldRule {
-        number: 2,
-        form: Form::Many,
-    },
-    FieldRule {
-        number: 17,
-        form: Form::Number,
-    },
-    FieldRule {
-        number: 19,
-        form: Form::Number,
-    },
-    FieldRule {
-        number: 20,
-        form: Form::Number,
-    },
-];
+pub const PRIMITIVE_BLOCK: [FieldRule; 5] = rules![1 Once, 2 Many, 17 Number, 19 Number, 20 Number];
 
 /// StringTable: s.
-pub const STRING_TABLE: [FieldRule; 1] = [FieldRule {
-    number: 1,
-    form: Form::Many,
-}];
+pub const STRING_TABLE: [FieldRule; 1] = rules![1 Many];
 
 /// PrimitiveGroup: nodes, dense, ways, relations, changesets.
-pub const PRIMITIVE_GROUP: [FieldRule; 5] = [
-    FieldRule {
-        number: 1,
-        form: Form::Many,
-    },
-    FieldRule {
-        number: 2,
-        form: Form::Once,
-    },
-    FieldRule {
-        number: 3,
-        form: Form::Many,
-    },
-    FieldRule {
-        number: 4,
-        form: Form::Many,
-    },
-    FieldRule {
-        number: 5,
-        form: Form::Many,
-    },
-];
+pub const PRIMITIVE_GROUP: [FieldRule; 5] = rules![1 Many, 2 Once, 3 Many, 4 Many, 5 Many];
 
 /// Node: id, keys, vals, lat, lon.
-pub const NODE: [FieldRule; 5] = [
-    FieldRule {
-        number: 1,
-        form: Form::Number,
-    },
-    FieldRule {
-        number: 2,
-        form: Form::Packed,
-    },
-    FieldRule {
-        number: 3,
-        form: Form::Packed,
-    },
-    FieldRule {
-        number: 8,
-        form: Form::Number,
-    },
-    FieldRule {
-        number: 9,
-        form: Form::Number,
-    },
-];
+pub const NODE: [FieldRule; 5] = rules![1 Number, 2 Packed, 3 Packed, 8 Number, 9 Number];
 
 /// DenseNodes: id, lat, lon, keys_vals.
-pub const DENSE_NODES: [FieldRule; 4] = [
-    FieldRule {
-        number: 1,
-        form: Form::Packed,
-    },
-    FieldRule {
-        number: 8,
-        form: Form::Packed,
-    },
-    FieldRule {
-        number: 9,
-        form: Form::Packed,
-    },
-    FieldRule {
-        number: 10,
-        form: Form::Packed,
-    },
-];
+pub const DENSE_NODES: [FieldRule; 4] = rules![1 Packed, 8 Packed, 9 Packed, 10 Packed];
 
 /// Way: id, keys, vals, refs.
-pub const WAY: [FieldRule; 4] = [
-    FieldRule {
-        number: 1,
-        form: Form::Number,
-    },
-    FieldRule {
-        number: 2,
-        form: Form::Packed,
-    },
-    FieldRule {
-        number: 3,
-        form: Form::Packed,
-    },
-    FieldRule {
-        number: 8,
-        form: Form::Packed,
-    },
-];
+pub const WAY: [FieldRule; 4] = rules![1 Number, 2 Packed, 3 Packed, 8 Packed];
 
 /// Relation: id, keys, vals, roles_sid, memids, types.
-pub const RELATION: [FieldRule; 6] = [
-    FieldRule {
-        number: 1,
-        form: Form::Number,
-    },
-    FieldRule {
-        number: 2,
-        form: Form::Packed,
-    },
-    FieldRule {
-        number: 3,
-        form: Form::Packed,
-    },
-    FieldRule {
-        number: 8,
-        form: Form::Packed,
-    },
-    FieldRule {
-        number: 9,
-        form: Form::Packed,
-    },
-    FieldRule {
-        number: 10,
-        form: Form::Packed,
-    },
-];
+pub const RELATION: [FieldRule; 6] =
+    rules![1 Number, 2 Packed, 3 Packed, 8 Packed, 9 Packed, 10 Packed];
 
 /// The rules are the tables of the definitions.
 pub fn the_tables()
