@@ -1,20 +1,13 @@
 -- The field in front of bytes, step by step.
-use Rattle.std.proofs.Common.{◌≡◌, ◌⊎◌, ◌∙◌, ap, get_or, ℕ, ◌+◌, ◌-◌, take, length, sym, Result, Option, [], ◌∷◌, ◌/◌, ◌%◌, ◌<◌, ◌≤◌, ◌^◌, ◌&&◌, List, drop, refl, arith, subst, inl, inr, true, Ok, Err, nat_lt, nat_le}
+use Rattle.std.proofs.Common.{◌≡◌, ◌⊎◌, ℕ, ◌+◌, ◌-◌, take, length, sym, Result, Option, [], ◌∷◌, ◌/◌, ◌%◌, ◌<◌, ◌≤◌, ◌^◌, ◌&&◌, List, drop, refl, arith, subst, inl, inr, true, Ok, Err, nat_lt, nat_le}
 use Rattle.std.proofs.lemmas.Bool.{lt-ltb, le-leb, lt-leb, le-ltb, and_left, and_right}
 use Rattle.std.proofs.lemmas.List.{take_all, length-drop}
 use Rattle.pbf_wire.specs.declared.fields.WireFault as reader
 use Rattle.pbf_wire.specs.declared.fields.Field as reader_field
 use Rattle.pbf_wire.specs.Shown.{Gives, GivesNext, fault_shown}
-use Rattle.mf_base.specs.Steps.{told_as}
-use Rattle.mf_base.proofs.VarintRead.{read-none, answer-within}
-use Rattle.osm_model.specs.Wire.{Value, WireFault, varint_fault, kind_fault, number_front, value_front, field_front, fields}
+use Rattle.osm_model.specs.Wire.{Value, WireFault, kind_fault, number_front, value_front, field_front, fields}
 use Rattle.osm_model.specs.Reading.{stops_at}
 use Rattle.osm_model.proofs.MessageLaws.{fields-stop}
-
--- a byte without the top bit is a varint
-pub front-one : (bytes : List ℕ) (byte : ℕ) → 0 < length bytes → byte ≡ get_or bytes 0 0 → byte < 128 → Ok (byte, 1) ≡ number_front bytes
-front-one bytes byte some is low =
-    ap (told_as (λ fault. varint_fault)) (ap (λ n. Ok (n, 1)) (omega arith) ∙ answer-within bytes 0 1 0 byte (read-none bytes) some (omega arith) is low)
 
 pub front-no_key : (bytes : List ℕ) (fault : WireFault) → number_front bytes ≡ Err fault → field_front bytes ≡ Err fault
 unfolding field_front

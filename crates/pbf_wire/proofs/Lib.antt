@@ -2,3 +2,4 @@ pub mod FieldReads
 pub mod PackedReads
 pub mod CheckReads
 pub mod WholeReads
+pub mod ValueLaws

@@ -1,33 +1,30 @@
 -- The first of whole varints, and how many they are.
-use Rattle.std.proofs.Common.{◌≡◌, ◌<◌, ◌≤◌, ◌^◌, ◌&&◌, ◌-◌, ℕ, suc, List, [], ◌∷◌, length, take, drop, map, refl, sym, ap, subst, ◌∙◌, arith, inl, inr, true, false, cond, Ok, Err, Result, nat_lt}
+use Rattle.std.proofs.Common.{◌≡◌, ◌<◌, ◌^◌, ◌&&◌, ℕ, suc, List, [], ◌∷◌, length, take, drop, get_or, map, refl, sym, ap, subst, ◌∙◌, arith, inl, inr, true, false, cond, Ok, Err, Result, nat_lt}
 use Rattle.std.specs.List.{list_all, count_by}
 use Rattle.std.proofs.lemmas.Bool.{cases_lt, cases_Bool, lt-ltb, le-ltb, le-leb, eq-eqb, and_from}
-use Rattle.std.proofs.lemmas.List.{take-append-drop, nil_from_length, drop-drop, length-drop}
+use Rattle.std.proofs.lemmas.List.{take-append-drop, nil_from_length}
 use Rattle.std.proofs.lemmas.List.Sums.{sum_by-append}
 use Rattle.mf_base.specs.Spelling.{IsVarint, high_run, sevens}
 use Rattle.mf_base.specs.NumberReading.{varint_front, read_at}
 use Rattle.mf_base.specs.declared.number.VarintFault.{VarintFault}
 use Rattle.mf_base.proofs.Runs.{high_run-low, high_run-high}
+use Rattle.mf_base.proofs.VarintRead.{read-none, answer-within}
 use Rattle.mf_base.proofs.NumberLemmas.{varint_reads, varint_found}
-use Rattle.mf_base.proofs.StepLaws.{ok_is, err_is_no_ok}
+use Rattle.mf_base.proofs.StepLaws.{err_is_no_ok}
 use Rattle.osm_model.specs.Wire.{runs, is_varint, are_varints, packed_numbers, IsPacked}
 use Rattle.osm_model.proofs.PackedLaws.{packed_found, runs-nil, runs-append}
 
--- what is read at a place is what stands in front there
-pub read-number : (at : ℕ) (front : Result (ℕ × ℕ) VarintFault) (n end : ℕ) → Ok (n, end) ≡ read_at at front → front ≡ Ok (n, end - at)
-read-number at (Ok found) n end e =
-    let pair = ok_is _ _ e in
-    let size : end - at ≡ found.1 = omega (arith, ap (λ (p : ℕ × ℕ). p.1) pair) in
-    let number : n ≡ found.0 = ap (λ (p : ℕ × ℕ). p.0) pair in
-    sym (ap (λ m. Ok (m, end - at)) number ∙ ap (λ m. Ok (found.0, m)) size)
-read-number at (Err fault) n end e = absurd (err_is_no_ok fault (n, end) (sym e))
+-- what is read at the start is what stands in front
+read_there : {F : Type 0} (front : Result (ℕ × ℕ) F) → front ≡ read_at 0 front
+read_there (Ok found) = ap (λ n. Ok (found.0, n)) (omega arith)
+read_there (Err fault) = refl
 
-pub read-first : (bytes : List ℕ) (n size : ℕ) → Ok (n, size) ≡ read_at 0 (varint_front bytes) → varint_front bytes ≡ Ok (n, size)
-read-first bytes n size e = let whole : size - 0 ≡ size = omega arith in read-number 0 (varint_front bytes) n size e ∙ ap (λ k. Ok (n, k)) whole
+pub front-read : (bytes : List ℕ) → read_at 0 (varint_front (drop 0 bytes)) ≡ varint_front bytes
+front-read bytes = sym (read_there (varint_front bytes))
 
-pub read-fault : (at : ℕ) (front : Result (ℕ × ℕ) VarintFault) (fault : VarintFault) → Err fault ≡ read_at at front → front ≡ Err fault
-read-fault at (Ok found) fault e = absurd (err_is_no_ok _ _ e)
-read-fault at (Err other) fault e = sym e
+-- a byte without the top bit is a varint
+pub front-one : (bytes : List ℕ) (byte : ℕ) → 0 < length bytes → byte ≡ get_or bytes 0 0 → byte < 128 → Ok (byte, 1) ≡ varint_front bytes
+front-one bytes byte some is low = ap (λ n. Ok (n, 1)) (omega arith) ∙ answer-within bytes 0 1 0 byte (read-none bytes) some (omega arith) is low
 
 first_run_of : (bytes : List ℕ) (n size : ℕ) → varint_front bytes ≡ Ok (n, size) → runs bytes ≡ take size bytes ∷ runs (drop size bytes)
 first_run_of bytes n size e = let found = varint_found bytes n size e in ap runs (sym (take-append-drop size bytes)) ∙ runs-append (take size bytes) (drop size bytes) found.spelled.run
@@ -65,8 +62,8 @@ whole-nil = ap (list_all is_varint) runs-nil
 pub numbers-nil : packed_numbers [] ≡ []
 numbers-nil = ap (map sevens) runs-nil
 
-pub numbers-end : (bytes : List ℕ) (fault : VarintFault) → are_varints bytes ≡ true → Err fault ≡ read_at 0 (varint_front bytes) → packed_numbers bytes ≡ []
-numbers-end bytes fault whole e = ap packed_numbers (whole-end bytes fault whole (read-fault 0 (varint_front bytes) fault e)) ∙ numbers-nil
+pub numbers-end : (bytes : List ℕ) (fault : VarintFault) → are_varints bytes ≡ true → Err fault ≡ varint_front bytes → packed_numbers bytes ≡ []
+numbers-end bytes fault whole e = ap packed_numbers (whole-end bytes fault whole (sym e)) ∙ numbers-nil
 
 -- ---- their number
 

@@ -1,5 +1,5 @@
 -- Whole varints, byte by byte.
-use Rattle.std.proofs.Common.{◌≡◌, ◌<◌, ◌≤◌, ◌+◌, ◌*◌, ◌-◌, ◌∙◌, ℕ, zero, suc, List, [], length, take, drop, get_or, nat_eq, refl, sym, ap, arith, inl, inr, true, false, Ok}
+use Rattle.std.proofs.Common.{◌≡◌, ◌<◌, ◌≤◌, ◌+◌, ◌*◌, ◌-◌, ◌∙◌, ℕ, List, [], length, drop, get_or, nat_eq, refl, sym, ap, arith, inl, inr, false, Ok}
 use Rattle.std.proofs.lemmas.Bool.{cases_lt, cases_eq, eq-eqb, ne_eqb}
 use Rattle.std.proofs.lemmas.List.{drop-drop, length-drop, get_or-drop, nil_from_length}
 use Rattle.mf_base.specs.NumberReading.{varint_front}

@@ -6,7 +6,7 @@ ghost use Rattle.osm_model.specs.Wire as wire;
 ghost use Rattle.osm_model.specs.Wire.{number_front, bytes_front, value_front, field_front, fields, len};
 ghost use Rattle.pbf_wire.specs.Shown.{ShowsValue, ShowsField, Gives, BeginsWith, GivesNext, fault_shown};
 
-use mf_base::varint::get_varint;
+use crate::varint::first_varint;
 use std::marker::Model;
 use thiserror::Error;
 
@@ -109,11 +109,7 @@ fn first_number(bytes: &[u8]) -> Result<(u64, usize), WireFault>
     ensures front { told_as fault_shown result ≡ number_front bytes.now }
     ensures within { IfOk result (λ found. (0 < found.1) × (found.1 ≤ length bytes.now)) }
 {
-    // Most keys and lengths take one byte.
-    if !bytes.is_empty() && bytes[0] < 128 {
-        return Ok((u64::from(bytes[0]), 1));
-    }
-    match get_varint(bytes, 0) {
+    match first_varint(bytes) {
         Ok(found) => Ok(found),
         Err(_) => Err(WireFault::Varint),
     }

@@ -4,7 +4,7 @@ ghost use Rattle.std.specs.Prelude.{◌≡◌, true, drop, length, slice_get, op
 ghost use Rattle.mf_base.specs.Spelling.{unzigzag_of};
 ghost use Rattle.osm_model.specs.Wire.{are_varints, packed_numbers};
 
-use mf_base::varint::get_varint;
+use crate::varint::first_varint;
 use mf_base::zigzag::unzigzag;
 use std::marker::Model;
 
@@ -39,7 +39,7 @@ impl<'a> Packed<'a> {
         ensures first { result ≡ slice_get self.old 0 }
         ensures rest { self.new ≡ drop 1 self.old }
     {
-        match get_varint(self.rest, 0) {
+        match first_varint(self.rest) {
             Ok((number, size)) => {
                 self.rest = &self.rest[size..];
                 Some(number)

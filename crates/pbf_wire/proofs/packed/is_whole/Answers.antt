@@ -1,4 +1,4 @@
-use Rattle.std.proofs.Common.{◌≡◌, ◌≤◌, ◌+◌, arith, refl, sym, subst, get_or, ℕ}
+use Rattle.std.proofs.Common.{◌≡◌, ◌≤◌, ◌+◌, arith, refl, sym, subst, get_or}
 use Rattle.pbf_wire.proofs.WholeReads.{WholeSoFar, whole-low, whole-high, whole-no_tenth, whole-ends}
 use Rattle.pbf_wire.proofs.packed.is_whole.Goals as goal
 use Rattle.pbf_wire.proofs.packed.is_whole.Goals.{else-run-eq9-via-then-run-eq9+else-byte-gt1, else-run-eq9-via-else-run-eq9, then-byte-lt128, else-byte-lt128}
