@@ -1,5 +1,5 @@
 -- The check of a message, field by field.
-use Rattle.std.proofs.Common.{◌≡◌, ◌∷◌, ◌==◌, ◌||◌, ◌+◌, ◌<◌, ◌∙◌, ap, sym, refl, subst, arith, inl, inr, ℕ, suc, List, [], Bool, true, false, cond, Option, Some, None, length, get_or, nat_lt, not, ◌≤◌}
+use Rattle.std.proofs.Common.{◌≡◌, ◌∷◌, ◌==◌, ◌||◌, ◌+◌, ◌<◌, ◌∙◌, ap, sym, refl, subst, arith, inl, inr, ℕ, suc, List, [], Bool, true, false, cond, Option, Some, None, length, get_or, nat_lt, not, ◌≤◌, Result, Ok, Err}
 use Rattle.std.specs.Option.{option_or}
 use Rattle.std.specs.List.{list_any, prefix_len}
 use Rattle.std.specs.Prelude.{option_map, slice_set}
@@ -10,11 +10,14 @@ use Rattle.std.proofs.lemmas.Grind.{get_or-set_at}
 use Rattle.mf_base.proofs.StepLaws.{some_is, no_some}
 use Rattle.osm_model.specs.Wire.{fields, Field, WireFault}
 use Rattle.osm_model.specs.Reading.{then_reads, stops_at, all_read, Reading}
-use Rattle.osm_model.specs.Tables.{wire, form_of, form_fault, field_fault, fields_fault, message_fault, MessageFault}
+use Rattle.osm_model.proofs.TableLaws.{or_none, none_fits, some_no_none}
+use Rattle.osm_model.specs.Tables.{FitsTable, message, Table, wire, form_of, form_fault, field_fault, fields_fault, message_fault, MessageFault}
 use Rattle.pbf_wire.specs.declared.rules.FieldRule.{FieldRule}
 use Rattle.pbf_wire.specs.declared.rules.Form.TheVariants.{Number}
 use Rattle.pbf_wire.specs.Rules.{table_of, form_shown}
-use Rattle.pbf_wire.specs.Check.{Notes, place_in}
+use Rattle.pbf_wire.specs.Check.{Notes, place_in, answer_shown}
+use Rattle.pbf_wire.specs.declared.check.MessageFault as reader
+use Rattle.std.specs.Prelude.{OnOk}
 
 -- ---- the place of a rule
 
@@ -144,3 +147,25 @@ checked-more rules bytes seen now left rest f so e checked noted = record { befo
 
 pub checked-no : (rules : List FieldRule) (bytes : List ℕ) (seen : List Bool) (left rest : List ℕ) (f : Field) (fault : MessageFault) → (so : CheckedSoFar rules bytes seen left) → fields left ≡ then_reads f (fields rest) → Some fault ≡ field_fault (table_of rules) so.before f → Some fault ≡ message_fault (table_of rules) bytes
 checked-no rules bytes seen left rest f fault so e checked = sym (parts rules bytes seen left rest f (Some fault) so e checked)
+
+-- ---- what is accepted
+
+pub accepted : {P : Type 0} (r : Result (Unit {0}) reader.MessageFault) (fault : Option MessageFault) → answer_shown r ≡ fault → (fault ≡ None → P) → OnOk r P
+accepted (Ok x) fault e holds = holds (sym e)
+accepted (Err f) fault e holds = tt
+
+pub message-whole : (table : Table) (bytes : List ℕ) → message_fault table bytes ≡ None → (fields bytes).fault ≡ None
+unfolding message_fault
+message-whole table bytes e = no_wire (fields bytes).fault (or_none (fields_fault table [] (fields bytes).items) (option_map wire (fields bytes).fault) e).1
+  where
+    no_wire : (fault : Option WireFault) → option_map wire fault ≡ None → fault ≡ None
+    no_wire None e = refl
+    no_wire (Some fault) e = absurd (some_no_none (wire fault) e)
+
+pub message-fits : (table : Table) (bytes : List ℕ) → message_fault table bytes ≡ None → FitsTable table (fields bytes).items
+unfolding message_fault
+message-fits table bytes e = none_fits table (fields bytes).items (or_none (fields_fault table [] (fields bytes).items) (option_map wire (fields bytes).fault) e).0
+
+pub message-is : (table : Table) (bytes : List ℕ) → message_fault table bytes ≡ None → message table bytes ≡ Ok (fields bytes).items
+unfolding message
+message-is table bytes e = rw (e, message) refl

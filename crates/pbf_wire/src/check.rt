@@ -1,9 +1,10 @@
 //! The check of a message against a table of field rules.
 
-ghost use Rattle.std.specs.Prelude.{◌≡◌, ◌==◌, ℕ, List, [], ◌∷◌, length, position};
+ghost use Rattle.std.specs.Prelude.{◌≡◌, ◌==◌, ℕ, List, [], ◌∷◌, length, OnOk, position};
 ghost use Rattle.std.specs.List.{list_any};
 ghost use Rattle.osm_model.specs.Wire as model;
-ghost use Rattle.osm_model.specs.Tables.{form_fault, field_fault, message_fault};
+ghost use Rattle.osm_model.specs.Wire.{fields};
+ghost use Rattle.osm_model.specs.Tables.{message, FitsTable, form_fault, field_fault, message_fault};
 ghost use Rattle.pbf_wire.specs.Shown.{ShowsValue, ShowsField};
 ghost use Rattle.pbf_wire.specs.Rules.{form_shown, table_of};
 ghost use Rattle.pbf_wire.specs.Check.{answer_shown, Notes, place_in};
@@ -33,6 +34,11 @@ pub fn check_message<const N: usize>(
     rules: &[FieldRule; N],
 ) -> Result<(), MessageFault>
     ensures exact { answer_shown result ≡ message_fault (table_of rules.now) bytes.now }
+
+    // What is accepted is a message of the table: all its fields are read, and they fit it.
+    ensures message { OnOk result (message (table_of rules.now) bytes.now ≡ Ok (fields bytes.now).items) }
+    ensures whole { OnOk result ((fields bytes.now).fault ≡ None) }
+    ensures fits { OnOk result (FitsTable (table_of rules.now) (fields bytes.now).items) }
 {
     let mut seen = [false; N];
     check_fields(bytes, rules, &mut seen)

@@ -24,6 +24,9 @@ pub enum WireFault {
     Length,
 }
 
+// Field numbers are in 1 to 2^29 - 1.
+const FIELD_NUMBER_LIMIT: u64 = 536870912;
+
 /// The value of a field.
 #[derive(Clone, Copy, Debug, PartialEq, Eq)]
 pub enum Value<'a> {
@@ -93,7 +96,7 @@ fn first_field(bytes: &[u8]) -> Result<(Field<'_>, usize), WireFault>
 {
     let (key, at) = first_number(bytes)?;
     let number = key / 8;
-    if number < 1 || number >= 536870912 {
+    if number < 1 || number >= FIELD_NUMBER_LIMIT {
         return Err(WireFault::Kind);
     }
     let (value, size) = first_value(&bytes[at..], key % 8)?;

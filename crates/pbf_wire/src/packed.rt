@@ -80,8 +80,8 @@ fn low_bytes(bytes: &[u8]) -> u64
     count
 }
 
-/// Whether bytes are whole varints: of at most ten bytes, of which the tenth is 0 or 1.
-pub fn is_whole(bytes: &[u8]) -> bool
+// Whether bytes are whole varints: of at most ten bytes, of which the tenth is 0 or 1.
+pub(crate) fn is_whole(bytes: &[u8]) -> bool
     ensures { result ≡ are_varints bytes.now }
 {
     // How many bytes with the top bit stand before.
