@@ -1,0 +1,4 @@
+pub mod PoiBytes
+pub mod Levels
+pub mod Features
+pub mod Writing
