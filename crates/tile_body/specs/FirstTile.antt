@@ -15,7 +15,7 @@ use Rattle.tile_body.specs.declared.first_tile.FirstPoi.{FirstPoi}
 abbrev pub first_poi : FirstPoi → PoiFields
 first_poi p = record { place = p.place; layer = pos 0; tags = record { tag = 0; value = KeptValue.plain } ∷ []; other = 0; name = None; house = None; height = None }
 
--- POIs that may be the members of a tile, in this order: each zoom is at most the maximum, and the effective zooms never fall
+-- the POIs may be the members of a tile, in this order: each zoom is at most the maximum, and the effective zooms never fall
 abbrev pub AreMembers : Interval → List FirstPoi → Type 0
 AreMembers interval pois = All (λ (p : FirstPoi). p.zoom ≤ interval.max) pois × IsNonDecreasingBy (λ (p : FirstPoi). effective_zoom interval p.zoom) pois
 
@@ -34,12 +34,14 @@ unfoldable pub first_tile_bytes : Interval → Place → List FirstPoi → List 
 first_tile_bytes interval corner [] = []
 first_tile_bytes interval corner (p ∷ pois) = levels_bytes corner (map (first_level interval (p ∷ pois)) (zooms interval))
 
+-- ---- parts of it
+
 -- so many levels of a zoom table, of which the first has this many POIs and the others none, all without ways
 unfoldable pub counts_bytes : (pois levels : ℕ) → List ℕ
 counts_bytes pois zero = []
 counts_bytes pois (suc levels) = (vbe_unsigned pois ++ vbe_unsigned 0) ++ counts_bytes 0 levels
 
--- how many POIs are counted and not yet put, where this many were before so many levels were put
+-- how many of the counted POIs are left for the next level, once so many levels are put: all where no level is
 unfoldable pub left_open : (pois levels : ℕ) → ℕ
 left_open pois zero = pois
 left_open pois (suc levels) = 0

@@ -39,6 +39,7 @@ pub fn put_pois(out: &mut OutBuf, pois: &[FirstPoi], interval: &Interval, corner
     if pois.is_empty() {
         return;
     }
+    // So few POIs take so few bytes that an unsigned VBE number tells how many.
     prove!(pois.len() <= out.spare() / 32);
     let size = put_zoom_table(out, pois, interval, corner);
     put_vbe_u(out, size);
@@ -69,7 +70,7 @@ fn put_zoom_table(out: &mut OutBuf, pois: &[FirstPoi], interval: &Interval, corn
     size
 }
 
-// Puts so many levels of the zoom table, of which the first has `count` POIs and the others none, and tells how many of these are left for the next level.
+// Puts so many levels of the zoom table, of which the first has `count` POIs and the others none. It tells how many counted POIs are left for the next level: all where no level is put.
 fn put_levels(out: &mut OutBuf, count: u64, levels: u8) -> u64
     requires fits { count < 2 ^ 63 }
     requires room { HasRoom out.old (20 * levels) }
