@@ -1,3 +1,4 @@
+pub mod Compute
 pub mod PoiBytes
 pub mod Levels
 pub mod Features
