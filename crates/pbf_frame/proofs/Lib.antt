@@ -1,2 +1,3 @@
+pub mod Compute
 pub mod Shortest
 pub mod Found
