@@ -1,0 +1,34 @@
+-- Parts that are put one after another.
+use Rattle.std.proofs.Common.{◌≡◌, ℕ, ◌+◌, ◌≤◌, List, [], ◌∷◌, ◌++◌, length, arith, append_assoc, append-nil, length-append, sym}
+use Rattle.std.specs.Prelude.{Bool}
+use Rattle.mf_base.specs.Buffer.{Buffer, AppendsTo}
+use Rattle.mf_base.specs.Spelling.{big_endian}
+use Rattle.map_model.specs.SubFile.{entry_bytes, index_bytes}
+use Rattle.map_model.proofs.SizeLemmas.{length-big_endian}
+
+pub appends-both : (first second third : Buffer) (a b : List ℕ) → AppendsTo first second a → AppendsTo second third b → AppendsTo first third (a ++ b)
+appends-both first second third a b one two = rw (two, one) (λ i. record { bytes = append_assoc first.bytes a b i; capacity = first.capacity })
+
+pub appends-same : (first next : Buffer) (a b : List ℕ) → a ≡ b → AppendsTo first next a → AppendsTo first next b
+appends-same first next a b same one = rw one (λ i. record { bytes = first.bytes ++ same i; capacity = first.capacity })
+
+pub puts-four : (first b2 b3 b4 last : Buffer) (a b c d : List ℕ) → AppendsTo first b2 a → AppendsTo b2 b3 b → AppendsTo b3 b4 c → AppendsTo b4 last d → AppendsTo first last (((a ++ b) ++ c) ++ d)
+puts-four first b2 b3 b4 last a b c d one two three four = appends-both first b4 last _ _ (appends-both first b3 b4 _ _ (appends-both first b2 b3 _ _ one two) three) four
+
+pub puts-five : (first b2 b3 b4 b5 last : Buffer) (a b c d e : List ℕ) → AppendsTo first b2 a → AppendsTo b2 b3 b → AppendsTo b3 b4 c → AppendsTo b4 b5 d → AppendsTo b5 last e → AppendsTo first last ((((a ++ b) ++ c) ++ d) ++ e)
+puts-five first b2 b3 b4 b5 last a b c d e one two three four five = appends-both first b5 last _ _ (puts-four first b2 b3 b4 b5 _ _ _ _ one two three four) five
+
+pub puts-most : (first next : Buffer) (bytes : List ℕ) (n : ℕ) → AppendsTo first next bytes → length bytes ≤ n → length next.bytes ≤ length first.bytes + n
+puts-most first next bytes n put short = rw put (omega (arith, length-append first.bytes bytes, short))
+
+-- ---- index
+
+pub index-of_one : (water : Bool) (bytes : List ℕ) → index_bytes (record { water = water; bytes = bytes } ∷ []) ≡ entry_bytes water 5
+unfolding index_bytes
+index-of_one water bytes = append-nil (entry_bytes water 5)
+
+pub puts-index : (first next : Buffer) (water : Bool) (bytes : List ℕ) → AppendsTo first next (entry_bytes water 5) → AppendsTo first next (index_bytes (record { water = water; bytes = bytes } ∷ []))
+puts-index first next water bytes put = appends-same first next _ _ (sym (index-of_one water bytes)) put
+
+pub puts-be_most : (first next : Buffer) (width n : ℕ) → AppendsTo first next (big_endian width n) → length next.bytes ≤ length first.bytes + width
+puts-be_most first next width n put = puts-most first next _ width put (let e = length-big_endian width n in omega (arith, e))

@@ -1,0 +1,27 @@
+-- The header of a map whose mapping is one entry for nodes, and that has one interval and no optional field: Mapsforge Specification, Binary Map File Format, version 5, on the file header.
+use Rattle.std.specs.Prelude.{[], ◌∷◌, None, false}
+use Rattle.mf_base.specs.Texts.{Text}
+use Rattle.feature_model.specs.Mapping.{Mapping}
+use Rattle.map_model.specs.Listed.{TagLists, tag_lists}
+use Rattle.map_model.specs.Header.{HeadSettings}
+use Rattle.mfwrite.specs.declared.head.FirstHead.{FirstHead}
+
+-- a date of creation and one interval, without optional fields
+abbrev pub settings_of : FirstHead → HeadSettings
+settings_of head = record {
+  date = head.date;
+  start = None;
+  start_zoom = None;
+  language = None;
+  comment = None;
+  created_by = None;
+  intervals = head.interval ∷ [];
+}
+
+-- A mapping of one entry for nodes. The entry's zoom and marks stand in no header.
+abbrev pub first_mapping : Text → Text → Mapping
+first_mapping key value = record { poi = record { key = key; value = value; zoom = 0; water = false; label = false } ∷ []; way = [] }
+
+-- the tags of that mapping: `key=value` for POIs, and none for ways
+abbrev pub tags_of : FirstHead → TagLists
+tags_of head = tag_lists (first_mapping head.key.now head.value.now)
