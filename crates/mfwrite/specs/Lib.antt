@@ -1,1 +1,3 @@
 pub mod FirstHead
+pub mod FirstWords
+pub mod Shown

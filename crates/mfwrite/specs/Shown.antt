@@ -1,0 +1,28 @@
+-- What the reader of words answers, in the words of the definitions.
+use Rattle.std.specs.Prelude.{ℕ, Bool, not, ◌&&◌, nat_le, codes, false, Option, Some, None, if◌then◌else◌}
+use Rattle.std.specs.Borrow.{Bor}
+use Rattle.mf_base.specs.Texts.{Text, begins, is_among}
+use Rattle.feature_model.specs.Mapping.{Entry}
+use Rattle.feature_model.specs.Entries.{is_short}
+use Rattle.mfwrite.specs.FirstWords as spec
+use Rattle.mfwrite.specs.declared.first_words.FirstWords.{FirstWords}
+
+-- an entry without marks
+abbrev pub plain_entry : Text → Text → ℕ → Entry
+plain_entry key value zoom = record { key = key; value = value; zoom = zoom; water = false; label = false }
+
+-- the entry of a key, a value and a zoom level
+abbrev pub part_shown : Bor Text × Bor Text × ℕ → Entry
+part_shown p = plain_entry p.0.now p.1.now p.2
+
+-- the entry, where its zoom level is one
+abbrev pub of_a_zoom : Entry → Option Entry
+of_a_zoom e = if nat_le e.zoom 21 then Some e else None
+
+-- whether an entry may have this key and this value, but for a `=` in the key
+abbrev pub plain_tag : Text → Text → Bool
+plain_tag key value = is_short key && is_short value && not (begins (codes "%") value) && not (is_among spec.field_keys key)
+
+-- the words that the reader tells
+abbrev pub words_shown : FirstWords → spec.FirstWords
+words_shown w = record { entry = plain_entry w.key.now w.value.now w.zoom; interval = w.interval; date = w.date }
