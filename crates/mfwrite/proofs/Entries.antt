@@ -12,7 +12,8 @@ use Rattle.mf_base.specs.Words.{equals}
 use Rattle.mf_base.proofs.StepLaws.{some_is, no_some}
 use Rattle.feature_model.specs.Mapping.{Entry}
 use Rattle.feature_model.specs.Entries.{MappingFault, keeps_entry_rule, keeps_kind_rule, is_short, entry_behind, entries_behind, mapping_told, told_poi}
-use Rattle.mfwrite.specs.FirstWords.{behind, only_poi, is_plain, plain_only, field_keys, told_entry, first_entry, first_interval, first_date, last_date}
+use Rattle.pbf_frame.specs.FirstForm.{kept_keys}
+use Rattle.mfwrite.specs.FirstWords.{behind, only_poi, is_plain, plain_only, told_entry, first_entry, first_interval, first_date, last_date}
 use Rattle.mfwrite.specs.Shown.{plain_entry, of_a_zoom, plain_tag}
 
 -- ---- the mapping of one entry
@@ -69,7 +70,7 @@ shuffled false b false d e = refl
 
 both_rules : (key value : Text) (zoom : ℕ) → has_byte equals key ≡ false → (keeps_entry_rule which.List.Poi (plain_entry key value zoom) && is_plain (plain_entry key value zoom)) ≡ (nat_le zoom 21 && plain_tag key value)
 unfolding keeps_entry_rule
-both_rules key value zoom h = rw h (shuffled (is_short key) (is_short value) (nat_le zoom 21) (not (begins (codes "%") value)) (not (is_among field_keys key)))
+both_rules key value zoom h = rw h (shuffled (is_short key) (is_short value) (nat_le zoom 21) (not (begins (codes "%") value)) (not (is_among kept_keys key)))
 
 one_false : (a b c e : Bool) → (a && b && c && false && e) ≡ false
 one_false true true true e = refl

@@ -8,7 +8,7 @@ use Rattle.mf_base.proofs.OneSpelling.{vbe-small}
 use Rattle.map_model.specs.Listed.{TagLists}
 use Rattle.map_model.specs.Header.{HeadSettings, SubFile, magic_word, mercator_word, box_bytes, interval_bytes, middle_bytes, fields_bytes, header_fields_bytes, written_header, header_size, header_bytes, sub_files}
 use Rattle.map_model.proofs.SizeLemmas.{length-big_endian, length-fields, length-header_bytes}
-use Rattle.mfwrite.specs.FirstHead.{settings_of, tags_of}
+use Rattle.mfwrite.specs.FirstHead.{settings_of, tag_lists_of}
 use Rattle.mfwrite.specs.declared.head.FirstHead.{FirstHead}
 use Rattle.mfwrite.proofs.Putting.{appends-both, appends-same}
 
@@ -27,7 +27,7 @@ puts-tag first second third fourth last n key value e size k is v =
 length-eight : length (vbe_unsigned 8) ≡ 1
 length-eight = ap length (vbe-small 128 0 8 (omega arith))
 
-middle-is : (head : FirstHead) → middle_bytes 256 0 (settings_of head) (tags_of head)
+middle-is : (head : FirstHead) → middle_bytes 256 0 (settings_of head) (tag_lists_of head)
     ≡ ((((((big_endian 2 256 ++ vbe_unsigned 8) ++ mercator_word) ++ 0 ∷ []) ++ big_endian 2 1) ++ string (head.key.now ++ 61 ∷ head.value.now)) ++ big_endian 2 0) ++ big_endian 1 1
 unfolding middle_bytes string
 middle-is head = simp (append_assoc, append-nil) refl
@@ -35,7 +35,7 @@ middle-is head = simp (append_assoc, append-nil) refl
 pub puts-middle : (first b2 b3 b4 b5 b6 b7 b8 last : Buffer) (head : FirstHead)
     → AppendsTo first b2 (big_endian 2 256) → AppendsTo b2 b3 (vbe_unsigned 8) → AppendsTo b3 b4 mercator_word → AppendsTo b4 b5 (0 ∷ []) → AppendsTo b5 b6 (big_endian 2 1)
     → AppendsTo b6 b7 (string (head.key.now ++ 61 ∷ head.value.now)) → AppendsTo b7 b8 (big_endian 2 0) → AppendsTo b8 last (big_endian 1 1)
-    → AppendsTo first last (middle_bytes 256 0 (settings_of head) (tags_of head))
+    → AppendsTo first last (middle_bytes 256 0 (settings_of head) (tag_lists_of head))
 puts-middle first b2 b3 b4 b5 b6 b7 b8 last head tile eight name flags one tag none intervals =
     appends-same first last _ _ (sym (middle-is head)) (
     appends-both first b8 last _ _ (
@@ -59,21 +59,21 @@ length-parts text =
     parts : (a b c d e f g h : List ℕ) → length (((((((a ++ b) ++ c) ++ d) ++ e) ++ f) ++ g) ++ h) ≡ length a + length b + length c + length d + length e + length f + length g + length h
     parts a b c d e f g h = simp length-append refl
 
-length-middle : (head : FirstHead) → length (middle_bytes 256 0 (settings_of head) (tags_of head))
+length-middle : (head : FirstHead) → length (middle_bytes 256 0 (settings_of head) (tag_lists_of head))
     ≡ 17 + length (vbe_unsigned (length (head.key.now ++ 61 ∷ head.value.now))) + length (head.key.now ++ 61 ∷ head.value.now)
 length-middle head = ap length (middle-is head) ∙ length-parts (head.key.now ++ 61 ∷ head.value.now)
 
 -- ---- size
 
 -- 96 bytes besides the tag, whose length stands before it
-pub first_head-size : (head : FirstHead) (tag size : ℕ) → tag ≡ length (head.key.now ++ 61 ∷ head.value.now) → size ≡ length (vbe_unsigned tag) → 60 + 17 + size + tag + 19 ≡ header_size (settings_of head) (tags_of head)
+pub first_head-size : (head : FirstHead) (tag size : ℕ) → tag ≡ length (head.key.now ++ 61 ∷ head.value.now) → size ≡ length (vbe_unsigned tag) → 60 + 17 + size + tag + 19 ≡ header_size (settings_of head) (tag_lists_of head)
 unfolding header_size
 first_head-size head tag size e s =
     let middle = length-middle head in
     let n = ap (λ t. length (vbe_unsigned t)) e in
     omega (arith, middle, n, e, s)
 
-pub head-least : (head : FirstHead) → 24 ≤ header_size (settings_of head) (tags_of head)
+pub head-least : (head : FirstHead) → 24 ≤ header_size (settings_of head) (tag_lists_of head)
 unfolding header_size
 head-least head = omega arith
 
@@ -91,29 +91,29 @@ header-split set box names subs same =
     let total = header_size set names + sum_by (λ (s : SubFile). s.size) subs in
     ap (λ n. (magic_word ++ big_endian 4 n) ++ fields_bytes total (written_header set box names subs)) (counted set box names subs total same)
 
-fields-are : (head : FirstHead) (box : Rect) (total : ℕ) (sub : SubFile) → fields_bytes total (written_header (settings_of head) box (tags_of head) (sub ∷ []))
-    ≡ ((((big_endian 4 5 ++ big_endian 8 total) ++ big_endian 8 head.date) ++ box_bytes box) ++ middle_bytes 256 0 (settings_of head) (tags_of head)) ++ interval_bytes (head.interval, sub)
+fields-are : (head : FirstHead) (box : Rect) (total : ℕ) (sub : SubFile) → fields_bytes total (written_header (settings_of head) box (tag_lists_of head) (sub ∷ []))
+    ≡ ((((big_endian 4 5 ++ big_endian 8 total) ++ big_endian 8 head.date) ++ box_bytes box) ++ middle_bytes 256 0 (settings_of head) (tag_lists_of head)) ++ interval_bytes (head.interval, sub)
 unfolding fields_bytes written_header
 fields-are head box total sub =
-    let before = (((big_endian 4 5 ++ big_endian 8 total) ++ big_endian 8 head.date) ++ box_bytes box) ++ middle_bytes 256 0 (settings_of head) (tags_of head) in
+    let before = (((big_endian 4 5 ++ big_endian 8 total) ++ big_endian 8 head.date) ++ box_bytes box) ++ middle_bytes 256 0 (settings_of head) (tag_lists_of head) in
     append-nil (before ++ (interval_bytes (head.interval, sub) ++ [])) ∙ ap (λ l. before ++ l) (append-nil (interval_bytes (head.interval, sub)))
 
 sub_files-one : (start size : ℕ) → sub_files start (size ∷ []) ≡ record { start = start; size = size } ∷ []
 unfolding sub_files
 sub_files-one start size = let same : start + 0 ≡ start = omega arith in λ i. record { start = same i; size = size } ∷ []
 
-head-is : (head : FirstHead) (box : Rect) (size : ℕ) → header_bytes (settings_of head) box (tags_of head) (sub_files (header_size (settings_of head) (tags_of head)) (size ∷ []))
-    ≡ (((((((magic_word ++ big_endian 4 (header_size (settings_of head) (tags_of head) - 24)) ++ big_endian 4 5) ++ big_endian 8 (header_size (settings_of head) (tags_of head) + size)) ++ big_endian 8 head.date) ++ box_bytes box)
-    ++ middle_bytes 256 0 (settings_of head) (tags_of head)) ++ interval_bytes (head.interval, record { start = header_size (settings_of head) (tags_of head); size = size }))
+head-is : (head : FirstHead) (box : Rect) (size : ℕ) → header_bytes (settings_of head) box (tag_lists_of head) (sub_files (header_size (settings_of head) (tag_lists_of head)) (size ∷ []))
+    ≡ (((((((magic_word ++ big_endian 4 (header_size (settings_of head) (tag_lists_of head) - 24)) ++ big_endian 4 5) ++ big_endian 8 (header_size (settings_of head) (tag_lists_of head) + size)) ++ big_endian 8 head.date) ++ box_bytes box)
+    ++ middle_bytes 256 0 (settings_of head) (tag_lists_of head)) ++ interval_bytes (head.interval, record { start = header_size (settings_of head) (tag_lists_of head); size = size }))
 head-is head box size =
-    let start = header_size (settings_of head) (tags_of head) in
+    let start = header_size (settings_of head) (tag_lists_of head) in
     let sub : SubFile = record { start = start; size = size } in
     let total : start + sum_by (λ (s : SubFile). s.size) (sub ∷ []) ≡ start + size = ap (λ n. start + n) (zero-before size) in
-    ap (λ subs. header_bytes (settings_of head) box (tags_of head) subs) (sub_files-one start size)
-    ∙ header-split (settings_of head) box (tags_of head) (sub ∷ []) refl
-    ∙ ap (λ n. (magic_word ++ big_endian 4 (start - 24)) ++ fields_bytes n (written_header (settings_of head) box (tags_of head) (sub ∷ []))) total
+    ap (λ subs. header_bytes (settings_of head) box (tag_lists_of head) subs) (sub_files-one start size)
+    ∙ header-split (settings_of head) box (tag_lists_of head) (sub ∷ []) refl
+    ∙ ap (λ n. (magic_word ++ big_endian 4 (start - 24)) ++ fields_bytes n (written_header (settings_of head) box (tag_lists_of head) (sub ∷ []))) total
     ∙ ap (λ l. (magic_word ++ big_endian 4 (start - 24)) ++ l) (fields-are head box (start + size) sub)
-    ∙ joined (magic_word ++ big_endian 4 (start - 24)) (big_endian 4 5) (big_endian 8 (start + size)) (big_endian 8 head.date) (box_bytes box) (middle_bytes 256 0 (settings_of head) (tags_of head)) (interval_bytes (head.interval, sub))
+    ∙ joined (magic_word ++ big_endian 4 (start - 24)) (big_endian 4 5) (big_endian 8 (start + size)) (big_endian 8 head.date) (box_bytes box) (middle_bytes 256 0 (settings_of head) (tag_lists_of head)) (interval_bytes (head.interval, sub))
   where
     zero-before : (n : ℕ) → 0 + n ≡ n
     zero-before n = omega arith
@@ -121,10 +121,10 @@ head-is head box size =
     joined : (a b c d e f g : List ℕ) → a ++ (((((b ++ c) ++ d) ++ e) ++ f) ++ g) ≡ (((((a ++ b) ++ c) ++ d) ++ e) ++ f) ++ g
     joined a b c d e f g = simp append_assoc refl
 
-pub puts-head : (first b2 b3 b4 last : Buffer) (head : FirstHead) (box : Rect) (start size : ℕ) → start ≡ header_size (settings_of head) (tags_of head)
+pub puts-head : (first b2 b3 b4 last : Buffer) (head : FirstHead) (box : Rect) (start size : ℕ) → start ≡ header_size (settings_of head) (tag_lists_of head)
     → AppendsTo first b2 (magic_word ++ big_endian 4 (start - 24) ++ big_endian 4 5 ++ big_endian 8 (start + size) ++ big_endian 8 head.date) → AppendsTo b2 b3 (box_bytes box)
-    → AppendsTo b3 b4 (middle_bytes 256 0 (settings_of head) (tags_of head)) → AppendsTo b4 last (interval_bytes (head.interval, record { start = start; size = size }))
-    → AppendsTo first last (header_bytes (settings_of head) box (tags_of head) (sub_files (header_size (settings_of head) (tags_of head)) (size ∷ [])))
+    → AppendsTo b3 b4 (middle_bytes 256 0 (settings_of head) (tag_lists_of head)) → AppendsTo b4 last (interval_bytes (head.interval, record { start = start; size = size }))
+    → AppendsTo first last (header_bytes (settings_of head) box (tag_lists_of head) (sub_files (header_size (settings_of head) (tag_lists_of head)) (size ∷ [])))
 puts-head first b2 b3 b4 last head box start size e front corners middle interval =
     let front_of : ℕ → List ℕ = λ n. magic_word ++ big_endian 4 (n - 24) ++ big_endian 4 5 ++ big_endian 8 (n + size) ++ big_endian 8 head.date in
     let sub_of : ℕ → List ℕ = λ n. interval_bytes (head.interval, record { start = n; size = size }) in
@@ -132,7 +132,7 @@ puts-head first b2 b3 b4 last head box start size e front corners middle interva
     appends-both first b4 last _ _ (appends-both first b3 b4 _ _ (appends-both first b2 b3 _ _ (appends-same first b2 _ _ (ap front_of e) front) corners) middle) (appends-same b4 last _ _ (ap sub_of e) interval)
     )
 
-pub length-head : (head : FirstHead) (box : Rect) (size : ℕ) → length (header_bytes (settings_of head) box (tags_of head) (sub_files (header_size (settings_of head) (tags_of head)) (size ∷ []))) ≡ header_size (settings_of head) (tags_of head)
+pub length-head : (head : FirstHead) (box : Rect) (size : ℕ) → length (header_bytes (settings_of head) box (tag_lists_of head) (sub_files (header_size (settings_of head) (tag_lists_of head)) (size ∷ []))) ≡ header_size (settings_of head) (tag_lists_of head)
 length-head head box size =
-    let start = header_size (settings_of head) (tags_of head) in
-    length-header_bytes (settings_of head) box (tags_of head) (sub_files start (size ∷ [])) (ap length (sub_files-one start size))
+    let start = header_size (settings_of head) (tag_lists_of head) in
+    length-header_bytes (settings_of head) box (tag_lists_of head) (sub_files start (size ∷ [])) (ap length (sub_files-one start size))

@@ -23,5 +23,5 @@ abbrev pub first_mapping : Text → Text → Mapping
 first_mapping key value = record { poi = record { key = key; value = value; zoom = 0; water = false; label = false } ∷ []; way = [] }
 
 -- the tags of that mapping: `key=value` for POIs, and none for ways
-abbrev pub tags_of : FirstHead → TagLists
-tags_of head = tag_lists (first_mapping head.key.now head.value.now)
+abbrev pub tag_lists_of : FirstHead → TagLists
+tag_lists_of head = tag_lists (first_mapping head.key.now head.value.now)

@@ -6,6 +6,7 @@ use Rattle.mf_base.specs.Texts.{Text, begins, is_among}
 use Rattle.mf_base.specs.Numbers.{number_in, zoom_number}
 use Rattle.feature_model.specs.Mapping.{Entry, Mapping}
 use Rattle.feature_model.specs.Entries.{one_poi}
+use Rattle.pbf_frame.specs.FirstForm.{kept_keys}
 
 -- What the words tell: the one entry of the mapping, the zoom levels of the one sub-file, and the date in milliseconds.
 pub record FirstWords : Type 0 where
@@ -26,13 +27,9 @@ only_of es = None
 abbrev pub only_poi : Mapping → Option Entry
 only_poi m = only_of m.poi
 
--- the keys whose values a map keeps in fields of their own
-abbrev pub field_keys : List Text
-field_keys = codes "name" ∷ codes "addr:housenumber" ∷ codes "ele" ∷ codes "layer" ∷ []
-
 -- whether an entry's value is its own text, and a map has no field for its key
 abbrev pub is_plain : Entry → Bool
-is_plain e = not (begins (codes "%") e.value) && not (is_among field_keys e.key)
+is_plain e = not (begins (codes "%") e.value) && not (is_among kept_keys e.key)
 
 -- the entry, where it is plain
 abbrev pub plain_only : Entry → Option Entry

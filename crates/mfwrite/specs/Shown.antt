@@ -6,6 +6,7 @@ use Rattle.feature_model.specs.Mapping.{Entry}
 use Rattle.feature_model.specs.Entries.{is_short}
 use Rattle.mfwrite.specs.FirstWords as spec
 use Rattle.mfwrite.specs.declared.first_words.FirstWords.{FirstWords}
+use Rattle.pbf_frame.specs.FirstForm.{kept_keys}
 
 -- an entry without marks
 abbrev pub plain_entry : Text → Text → ℕ → Entry
@@ -21,7 +22,7 @@ of_a_zoom e = if nat_le e.zoom 21 then Some e else None
 
 -- whether an entry may have this key and this value, but for a `=` in the key
 abbrev pub plain_tag : Text → Text → Bool
-plain_tag key value = is_short key && is_short value && not (begins (codes "%") value) && not (is_among spec.field_keys key)
+plain_tag key value = is_short key && is_short value && not (begins (codes "%") value) && not (is_among kept_keys key)
 
 -- the words that the reader tells
 abbrev pub words_shown : FirstWords → spec.FirstWords

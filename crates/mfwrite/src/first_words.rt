@@ -6,8 +6,9 @@ ghost use Rattle.mf_base.specs.Numbers.{number_in};
 ghost use Rattle.mf_base.specs.Words.{equals};
 ghost use Rattle.feature_model.specs.Entries as entries;
 ghost use Rattle.feature_model.specs.Entries.{told_poi};
+ghost use Rattle.pbf_frame.specs.FirstForm.{kept_keys};
 ghost use Rattle.mfwrite.specs.FirstWords as spec;
-ghost use Rattle.mfwrite.specs.FirstWords.{behind, field_keys, first_date, first_entry, first_interval};
+ghost use Rattle.mfwrite.specs.FirstWords.{behind, first_date, first_entry, first_interval};
 ghost use Rattle.mfwrite.specs.Shown.{of_a_zoom, part_shown, plain_tag, words_shown};
 
 use mf_base::tile::Interval;
@@ -115,7 +116,7 @@ fn is_short(text: &str) -> bool
 
 // Whether a map has a field for this key.
 fn has_field(key: &str) -> bool
-    ensures { result ≡ is_among field_keys key.now }
+    ensures { result ≡ is_among kept_keys key.now }
 {
     matches!(key, "name" | "addr:housenumber" | "ele" | "layer")
 }

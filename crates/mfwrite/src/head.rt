@@ -4,7 +4,7 @@ ghost use Rattle.std.specs.Prelude.{◌≡◌, ℕ, ◌+◌, ◌^◌, ◌≤◌,
 ghost use Rattle.mf_base.specs.Buffer.{HasRoom, AppendsTo};
 ghost use Rattle.mf_base.specs.Spelling.{big_endian, string};
 ghost use Rattle.map_model.specs.Header.{magic_word, be_signed, box_bytes, middle_bytes, interval_bytes, header_size, header_bytes, sub_files};
-ghost use Rattle.mfwrite.specs.FirstHead.{settings_of, tags_of};
+ghost use Rattle.mfwrite.specs.FirstHead.{settings_of, tag_lists_of};
 
 use mf_base::fixed::put_be;
 use mf_base::out_buf::OutBuf;
@@ -43,7 +43,7 @@ const TILE_SIZE: u64 = 256;
 pub fn head_size(head: &FirstHead) -> u64
     requires key { length head.now.key.now ≤ 255 }
     requires value { length head.now.value.now ≤ 255 }
-    ensures size { result ≡ header_size (settings_of head.now) (tags_of head.now) }
+    ensures size { result ≡ header_size (settings_of head.now) (tag_lists_of head.now) }
     ensures most { result ≤ 617 }
 {
     let tag = tag_size(head.key, head.value);
@@ -54,9 +54,9 @@ pub fn head_size(head: &FirstHead) -> u64
 pub fn put_head(out: &mut OutBuf, head: &FirstHead, bounds: &Rect, size: u64)
     requires key { length head.now.key.now ≤ 255 }
     requires value { length head.now.value.now ≤ 255 }
-    requires size { header_size (settings_of head.now) (tags_of head.now) + size < 2 ^ 63 }
+    requires size { header_size (settings_of head.now) (tag_lists_of head.now) + size < 2 ^ 63 }
     requires room { HasRoom out.old 800 }
-    ensures appends { AppendsTo out.old out.new (header_bytes (settings_of head.now) bounds.now (tags_of head.now) (sub_files (header_size (settings_of head.now) (tags_of head.now)) (size ∷ []))) }
+    ensures appends { AppendsTo out.old out.new (header_bytes (settings_of head.now) bounds.now (tag_lists_of head.now) (sub_files (header_size (settings_of head.now) (tag_lists_of head.now)) (size ∷ []))) }
     ensures most { length out.new.bytes ≤ length out.old.bytes + 617 }
 {
     let start = head_size(head);
@@ -106,7 +106,7 @@ fn put_middle(out: &mut OutBuf, head: &FirstHead)
     requires key { length head.now.key.now ≤ 255 }
     requires value { length head.now.value.now ≤ 255 }
     requires room { HasRoom out.old 590 }
-    ensures appends { AppendsTo out.old out.new (middle_bytes 256 0 (settings_of head.now) (tags_of head.now)) }
+    ensures appends { AppendsTo out.old out.new (middle_bytes 256 0 (settings_of head.now) (tag_lists_of head.now)) }
     ensures most { length out.new.bytes ≤ length out.old.bytes + 590 }
 {
     put_be(out, TILE_SIZE, 2);
