@@ -72,10 +72,6 @@ record In (t : TileRect) (x y : ℕ) : Type 0 where
   north : t.first_y ≤ y
   south : y ≤ t.last_y
 
-bool_cases : (b : Bool) → (b ≡ true) ⊎ (b ≡ false)
-bool_cases true = inl refl
-bool_cases false = inr refl
-
 and-both : (a b : Bool) → IsTrue (a && b) → IsTrue a × IsTrue b
 and-both true b h = (refl, h)
 and-both false b h = absurd (cc h)
