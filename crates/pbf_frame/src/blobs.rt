@@ -11,6 +11,7 @@ use crate::parts::{behind, counted, field, is_end, is_same, last_field, number_a
 pub(crate) fn blob_of<'a>(bytes: &'a [u8], kind: &[u8]) -> Option<(&'a [u8], &'a [u8])>
     requires { length kind.now ≤ 64 }
     ensures found { IfSome result (λ r. bytes.now ≡ blob kind.now r.0.now ++ r.1.now) }
+    ensures only { (raw : List ℕ) → (rest : List ℕ) → bytes.now ≡ blob kind.now raw ++ rest → IsSomeAnd result (λ r. (r.0.now ≡ raw) × (r.1.now ≡ rest)) }
 {
     let (header, rest) = header_of(bytes)?;
     let size = body_size(header, kind)?;

@@ -1,6 +1,6 @@
 //! The HeaderBlock of the first form.
 
-ghost use Rattle.std.specs.Prelude.{◌≡◌, ◌&&◌, IfSome, int_le};
+ghost use Rattle.std.specs.Prelude.{◌≡◌, ◌&&◌, IfSome, Some, int_le};
 ghost use Rattle.osm_model.specs.Blocks.{are_sides, is_within, longitude_limit, latitude_limit};
 ghost use Rattle.pbf_frame.specs.FirstForm.{AreSides, bbox, header_block};
 ghost use Rattle.pbf_frame.specs.declared.stored.Sides.{Sides};
@@ -12,6 +12,7 @@ use crate::stored::Sides;
 #[tactic(auto, using(crate::proofs::Found::block_steps))]
 pub(crate) fn header_sides(raw: &[u8]) -> Option<Sides>
     ensures found { IfSome result (λ s. (raw.now ≡ header_block s) × AreSides s) }
+    ensures only { (s : Sides) → AreSides s → raw.now ≡ header_block s → result ≡ Some s }
 {
     let (bbox, rest) = field(raw, 0x0A)?;
     let (schema, rest) = field(rest, 0x22)?;
