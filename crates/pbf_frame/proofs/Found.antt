@@ -17,7 +17,7 @@ use Rattle.pbf_frame.proofs.Shortest.{short-varint, spelled-short}
 
 -- ---- lists
 
-whole_rest : (size : ℕ) (bytes : List ℕ) → take (length bytes - size) (drop size bytes) ≡ drop size bytes
+pub whole_rest : (size : ℕ) (bytes : List ℕ) → take (length bytes - size) (drop size bytes) ≡ drop size bytes
 whole_rest size bytes = take_all (length bytes - size) (drop size bytes) (omega (arith, length-drop size bytes))
 
 cut_at : (size : ℕ) (bytes : List ℕ) → bytes ≡ take size bytes ++ take (length bytes - size) (drop size bytes)
@@ -81,14 +81,14 @@ length-string : (text : List ℕ) → length text < 128 → length (string text)
 unfolding string
 length-string text small = length-append (vbe_unsigned (length text)) text ∙ (rw (vbe-one (length text) small) (omega arith))
 
-length-header : (kind : List ℕ) (size : ℕ) → length kind ≤ 64 → size < 2 ^ 64 → length (blob_header kind size) < 128
+pub length-header : (kind : List ℕ) (size : ℕ) → length kind ≤ 64 → size < 2 ^ 64 → length (blob_header kind size) < 128
 unfolding blob_header
 length-header kind size few fits =
     let text = length-string kind (omega (arith, few)) in
     let number = (short-varint size fits).short in
     omega (arith, length-append (10 ∷ string kind) (24 ∷ vbe_unsigned size), text, number, few)
 
-string-small : (text : List ℕ) → length text < 128 → 0 ∷ 0 ∷ 0 ∷ string text ≡ big_endian 4 (length text) ++ text
+pub string-small : (text : List ℕ) → length text < 128 → 0 ∷ 0 ∷ 0 ∷ string text ≡ big_endian 4 (length text) ++ text
 unfolding string
 string-small text small = rw (vbe-one (length text) small, big_endian-small (length text) small) refl
 
@@ -107,7 +107,7 @@ blob-found bytes header rest kind raw size whole head within body few fits =
 -- ---- the header block
 
 -- a number as the code keeps it
-abbrev kept : ℤ → ℤ
+abbrev pub kept : ℤ → ℤ
 kept z = cast_signed w64 (cast_unsigned w64 z)
 
 pub sides-found : (bytes r s t u : List ℕ) (left right top bottom : ℤ) → bytes ≡ (8 ∷ vbe_unsigned (zigzag_of left)) ++ r → r ≡ (16 ∷ vbe_unsigned (zigzag_of right)) ++ s → s ≡ (24 ∷ vbe_unsigned (zigzag_of top)) ++ t → t ≡ (32 ∷ vbe_unsigned (zigzag_of bottom)) ++ u → u ≡ []

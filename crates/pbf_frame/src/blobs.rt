@@ -1,6 +1,6 @@
 //! Blobs of the first form.
 
-ghost use Rattle.std.specs.Prelude.{◌≡◌, ℕ, List, ◌∷◌, ◌++◌, ◌≤◌, ◌<◌, ◌^◌, length, IfSome, IsSomeAnd};
+ghost use Rattle.std.specs.Prelude.{◌≡◌, ℕ, List, ◌∷◌, ◌++◌, ◌≤◌, ◌<◌, ◌^◌, length, IfSome, IsSomeAnd, Some};
 ghost use Rattle.mf_base.specs.Spelling.{string};
 ghost use Rattle.pbf_frame.specs.FirstForm.{blob, blob_header};
 
@@ -26,6 +26,7 @@ pub(crate) fn blob_of<'a>(bytes: &'a [u8], kind: &[u8]) -> Option<(&'a [u8], &'a
 // The BlobHeader at the front, of fewer than 128 bytes, and what follows.
 fn header_of(bytes: &[u8]) -> Option<(&[u8], &[u8])>
     ensures found { IfSome result (λ r. bytes.now ≡ 0 ∷ 0 ∷ 0 ∷ (string r.0.now ++ r.1.now)) }
+    ensures only { (header : List ℕ) → (rest : List ℕ) → bytes.now ≡ 0 ∷ 0 ∷ 0 ∷ (string header ++ rest) → IsSomeAnd result (λ r. (r.0.now ≡ header) × (r.1.now ≡ rest)) }
 {
     counted(behind(behind(behind(bytes, 0)?, 0)?, 0)?)
 }
@@ -34,6 +35,7 @@ fn header_of(bytes: &[u8]) -> Option<(&[u8], &[u8])>
 #[tactic(auto, using(crate::proofs::Found::header_steps))]
 fn body_size(header: &[u8], kind: &[u8]) -> Option<u64>
     ensures found { IfSome result (λ size. header.now ≡ blob_header kind.now size) }
+    ensures only { (size : ℕ) → size < 2 ^ 64 → header.now ≡ blob_header kind.now size → result ≡ Some size }
 {
     let (found, rest) = field(header, 0x0A)?;
     let (size, more) = number_at(rest, 0x18)?;

@@ -29,6 +29,7 @@ pub(crate) fn header_sides(raw: &[u8]) -> Option<Sides>
 #[tactic(auto, using(crate::proofs::Found::side_steps))]
 fn sides_in(bytes: &[u8]) -> Option<Sides>
     ensures found { IfSome result (λ s. (bytes.now ≡ bbox s) × AreSides s) }
+    ensures only { (s : Sides) → AreSides s → bytes.now ≡ bbox s → result ≡ Some s }
 {
     let (left, rest) = signed_at(bytes, 0x08)?;
     let (right, rest) = signed_at(rest, 0x10)?;
