@@ -4,3 +4,6 @@ pub mod Found
 pub mod PartsOnly
 pub mod BlobsOnly
 pub mod HeaderOnly
+pub mod Fronts
+pub mod NodeLaws
+pub mod OneValue

@@ -139,10 +139,6 @@ pub record IsFirstForm (v : FirstValue) : Type 0 where
   pub sound : MatchOption v.held ⊤ IsFirstData
   pub short : length (first_bytes v) ≤ first_limit
 
--- There is a data blob, of one node.
-abbrev pub HasOneNode : FirstValue → Type 0
-HasOneNode v = MatchOption v.held ⊥ (λ (d : FirstData). length d.nodes ≡ 1)
-
 -- ---- what a value tells
 
 -- the box in microdegrees, rounded towards zero

@@ -1,31 +1,72 @@
 //! The PrimitiveBlock of the first form.
 
-ghost use Rattle.std.specs.Prelude.{◌≡◌, ◌<◌, ◌^◌, pos, ℕ, Bool, false, List, [], ◌∷◌, length, IfSome, IsSomeAnd};
-ghost use Rattle.osm_model.specs.Blocks.{is_coordinate};
-ghost use Rattle.mf_base.specs.Texts.{is_among};
-ghost use Rattle.pbf_frame.specs.FirstForm.{FirstData, IsFirstData, IsFirstText, AreFirstNodes, primitive_block, string_table, dense_nodes, tag_part, plain_head, kept_keys};
+ghost use Rattle.std.specs.Prelude.{◌≡◌, ◌≢◌, Bool, true, false, List, ℕ, [], IfSome, IsSomeAnd, Some, map};
+ghost use Rattle.mf_base.specs.Texts.{Text, is_among};
 ghost use Rattle.pbf_frame.specs.declared.stored.StoredNode.{StoredNode};
+ghost use Rattle.pbf_frame.specs.FirstForm.{FirstData, IsFirstData, IsFirstText, AreFirstNodes, primitive_block, string_table, dense_nodes, kept_keys, node_told};
+ghost use Rattle.pbf_frame.specs.Columns.{whole_columns, column_fields, nodes_left, AreNodes};
 
-use crate::parts::{field, is_end, last_field, signed_in};
-use crate::stored::StoredNode;
+use crate::columns::Columns;
+use crate::first_nodes::FirstNodes;
+use crate::parts::{field, is_end, last_field};
+use std::marker::Model;
 
-// The key, the value and the one node of a PrimitiveBlock.
-#[tactic(auto, using(crate::proofs::Found::data_steps))]
-pub(crate) fn data_in(raw: &[u8]) -> Option<(&str, &str, StoredNode)>
-    ensures found { IfSome result (λ r. (raw.now ≡ primitive_block (record { key = r.0.now; value = r.1.now; nodes = r.2 ∷ [] })) × IsFirstData (record { key = r.0.now; value = r.1.now; nodes = r.2 ∷ [] })) }
+/// What a PrimitiveBlock has. Its key, its value and its columns are lent from the bytes.
+#[derive(Drop)]
+pub(crate) struct Data<'a> {
+    key: &'a str,
+    value: &'a str,
+    columns: Columns<'a>,
+}
+
+impl<'a> Model for Data<'a> {
+    ghost use Rattle.pbf_frame.specs.FirstForm.{FirstData};
+    ghost use Rattle.pbf_frame.specs.Columns.{nodes_left, AreNodes};
+
+    ghost Value = { FirstData };
+
+    ghost view = { λ s. record { key = s.key.now; value = s.value.now; nodes = nodes_left s.columns } };
+
+    ghost invariant = { λ s. AreNodes s.columns };
+}
+
+impl<'a> Data<'a> {
+    // The key and the value.
+    pub(crate) fn tag(&self) -> (&'a str, &'a str)
+        ensures { (result.0.now ≡ self.now.key) × (result.1.now ≡ self.now.value) }
+    {
+        (self.key, self.value)
+    }
+
+    // The nodes, in order.
+    pub(crate) fn nodes(&self) -> FirstNodes<'a>
+        ensures { result ≡ map node_told self.now.nodes }
+    {
+        FirstNodes::new(self.columns.again())
+    }
+}
+
+// The key, the value and the nodes of a PrimitiveBlock.
+pub(crate) fn data_in(raw: &[u8]) -> Option<Data<'_>>
+    ensures found { IfSome result (λ d. (raw.now ≡ primitive_block d) × IsFirstData d) }
+    ensures only { (d : FirstData) → IsFirstData d → raw.now ≡ primitive_block d → result ≡ Some d }
 {
     let (table, rest) = field(raw, 0x0A)?;
     let (key, value) = texts_in(table)?;
     let group = last_field(rest, 0x12)?;
     let dense = last_field(group, 0x12)?;
-    let node = node_in(dense)?;
-    Some((key, value, node))
+    let columns = nodes_in(dense)?;
+    Some(Data {
+        key,
+        value,
+        columns,
+    })
 }
 
 // The key and the value of a StringTable.
-#[tactic(auto, using(crate::proofs::Found::table_steps))]
 fn texts_in(bytes: &[u8]) -> Option<(&str, &str)>
     ensures found { IfSome result (λ r. (bytes.now ≡ string_table r.0.now r.1.now) × IsFirstText r.0.now × IsFirstText r.1.now × (is_among kept_keys r.0.now ≡ false)) }
+    ensures only { (key : Text) → (value : Text) → IsFirstText key → IsFirstText value → is_among kept_keys key ≡ false → bytes.now ≡ string_table key value → IsSomeAnd result (λ r. (r.0.now ≡ key) × (r.1.now ≡ value)) }
 {
     let (empty, rest) = field(bytes, 0x0A)?;
     let (first, rest) = field(rest, 0x0A)?;
@@ -43,6 +84,7 @@ fn texts_in(bytes: &[u8]) -> Option<(&str, &str)>
 #[tactic(auto, using(crate::proofs::Found::text_steps))]
 fn text_of(bytes: &[u8]) -> Option<&str>
     ensures found { IfSome result (λ text. (text.now ≡ bytes.now) × IsFirstText bytes.now) }
+    ensures only { IsFirstText bytes.now → IsSomeAnd result (λ text. text.now ≡ bytes.now) }
 {
     if bytes.is_empty() {
         return None;
@@ -60,58 +102,28 @@ fn is_kept(key: &str) -> bool
     key == "name" || key == "addr:housenumber" || key == "ele" || key == "layer"
 }
 
-// The one node of DenseNodes.
-#[tactic(auto, using(crate::proofs::Found::node_steps))]
-fn node_in(bytes: &[u8]) -> Option<StoredNode>
-    ensures found { IfSome result (λ n. (bytes.now ≡ dense_nodes (n ∷ [])) × AreFirstNodes 0 (n ∷ [])) }
+// The nodes of DenseNodes, as their columns.
+fn nodes_in(bytes: &[u8]) -> Option<Columns<'_>>
+    ensures found { IfSome result (λ c. (bytes.now ≡ dense_nodes (nodes_left c)) × (nodes_left c ≢ []) × AreFirstNodes 0 (nodes_left c) × AreNodes c) }
+    ensures only { (nodes : List StoredNode) → nodes ≢ [] → AreFirstNodes 0 nodes → bytes.now ≡ dense_nodes nodes → IsSomeAnd result (λ c. nodes_left c ≡ nodes) }
 {
-    let (first, rest) = signed_in(bytes, 0x0A)?;
-    let (lat, rest) = signed_in(rest, 0x42)?;
-    let (lon, rest) = signed_in(rest, 0x4A)?;
+    let (ids, lats, lons, parts) = columns_in(bytes)?;
+    let columns = Columns::new(ids, lats, lons, parts);
+    if !is_end(ids) && columns.are_nodes() {
+        Some(columns)
+    } else {
+        None
+    }
+}
+
+// The four columns of DenseNodes: ids, latitudes, longitudes and keys_vals.
+fn columns_in(bytes: &[u8]) -> Option<(&[u8], &[u8], &[u8], &[u8])>
+    ensures found { IfSome result (λ r. bytes.now ≡ column_fields r.0.now r.1.now r.2.now r.3.now) }
+    ensures only { (ids : List ℕ) → (lats : List ℕ) → (lons : List ℕ) → (parts : List ℕ) → bytes.now ≡ column_fields ids lats lons parts → IsSomeAnd result (λ r. (r.0.now ≡ ids) × (r.1.now ≡ lats) × (r.2.now ≡ lons) × (r.3.now ≡ parts)) }
+{
+    let (ids, rest) = field(bytes, 0x0A)?;
+    let (lats, rest) = field(rest, 0x42)?;
+    let (lons, rest) = field(rest, 0x4A)?;
     let parts = last_field(rest, 0x52)?;
-    let tagged = tagged_in(parts)?;
-    let id = id_of(first)?;
-    let node = StoredNode {
-        id,
-        lat,
-        lon,
-        tagged,
-    };
-    if is_on_earth(lat, lon) {
-        Some(node)
-    } else {
-        None
-    }
-}
-
-// The id, which is 1 or more.
-fn id_of(number: i64) -> Option<u64>
-    ensures found { IfSome result (λ id. (number ≡ pos id) × (0 < id) × (id < 2 ^ 63)) }
-    ensures only { (id : ℕ) → 0 < id → number ≡ pos id → result ≡ Some id }
-{
-    if number < 1 {
-        None
-    } else {
-        Some(number.unsigned_abs())
-    }
-}
-
-// Whether keys_vals of one node give it the tag.
-fn tagged_in(bytes: &[u8]) -> Option<bool>
-    ensures found { IfSome result (λ tagged. bytes.now ≡ tag_part tagged) }
-{
-    if bytes == [0].as_slice() {
-        Some(false)
-    } else if bytes == [1, 2, 0].as_slice() {
-        Some(true)
-    } else {
-        None
-    }
-}
-
-// The stored latitude and longitude lie on the earth.
-fn is_on_earth(lat: i64, lon: i64) -> bool
-    ensures { result ≡ is_coordinate plain_head lat lon }
-{
-    lat.unsigned_abs() <= 900_000_000 && lon.unsigned_abs() <= 1_800_000_000
+    Some((ids, lats, lons, parts))
 }

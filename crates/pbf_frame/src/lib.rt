@@ -1,13 +1,16 @@
-//! Reads an input of the first form: one header blob with a box, and one data blob of dense nodes with one tag, each message in its one shortest spelling.
+//! Reads an input of the first form: one header blob with a box, and at most one data blob of dense nodes with one tag, each message in its one shortest spelling.
 //!
-//! What such an input is stands in `specs/FirstForm`. The reader is `first_form`; what it reads is `stored`, and it gives nodes as `first_node`. It goes down through `blobs`, `header` and `dense` by the steps in `parts`. A worked input stands in `rows`.
+//! What such an input is stands in `specs/FirstForm`. The reader is `first_form`; what it reads is `stored`, and it gives nodes as `first_node`, by `first_nodes`. It goes down through `blobs`, `header`, `dense` and `columns` by the steps in `parts`. That a value is read in just one way stands in `laws`, and worked inputs in `rows`.
 #![tactic(auto)]
 
 pub mod blobs;
+pub mod columns;
 pub mod dense;
 pub mod first_form;
 pub mod first_node;
+pub mod first_nodes;
 pub mod header;
+pub mod laws;
 pub mod parts;
 pub mod rows;
 pub mod stored;

@@ -119,17 +119,3 @@ pub(crate) fn signed_at(bytes: &[u8], key: u8) -> Option<(i64, &[u8])>
 {
     signed(behind(bytes, key)?)
 }
-
-// The one sint64 of the packed list in the LEN field with this key.
-pub(crate) fn signed_in(bytes: &[u8], key: u8) -> Option<(i64, &[u8])>
-    ensures found { IfSome result (λ r. bytes.now ≡ (key ∷ string (vbe_unsigned (zigzag_of r.0))) ++ r.1.now) }
-    ensures fits { IfSome result (λ r. FitsSigned w64 r.0) }
-{
-    let (column, rest) = field(bytes, key)?;
-    let (number, more) = signed(column)?;
-    if more.is_empty() {
-        Some((number, rest))
-    } else {
-        None
-    }
-}

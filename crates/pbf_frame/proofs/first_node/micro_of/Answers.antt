@@ -1,5 +1,5 @@
 use Rattle.pbf_frame.proofs.Found.{micro-fits, micro-cast}
-use Rattle.pbf_frame.proofs.first_form.micro_of.Goals as goal
+use Rattle.pbf_frame.proofs.first_node.micro_of.Goals as goal
 
 pub overflow_cast-result : goal.overflow_cast-result
 overflow_cast-result c = micro-fits c.args.nano c.requires

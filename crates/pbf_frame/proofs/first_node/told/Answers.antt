@@ -1,5 +1,5 @@
 use Rattle.pbf_frame.proofs.Found.{lat-near, lon-near, hundred-fits, hundred-near, told-is}
-use Rattle.pbf_frame.proofs.first_form.told.Goals as goal
+use Rattle.pbf_frame.proofs.first_node.told.Goals as goal
 
 pub overflow_mul-lat : goal.overflow_mul-lat
 overflow_mul-lat c = hundred-fits c.args.node.lat (lat-near c.args.node.lat c.args.node.lon c.requires)

@@ -1,0 +1,259 @@
+-- Columns spell the nodes that they tell, and begin with the first of them.
+use Rattle.std.proofs.Common.{◌≡◌, ℕ, zero, suc, ◌+◌, ◌<◌, ◌≤◌, ◌^◌, Bool, true, false, List, [], ◌∷◌, ◌++◌, length, map, refl, sym, ap, subst, ◌∙◌, arith, Option, Some, None}
+use Rattle.std.specs.Prelude.{flat_map, nat_lt, ℤ, pos, negsuc, nat_abs, ◌+ℤ◌, ◌-ℤ◌, ◌*ℤ◌, FitsSigned}
+use Rattle.std.specs.Int.{w64}
+use Rattle.std.proofs.lemmas.Int.{ints, fits_signed_from_abs, unsigned_abs-mul}
+use Rattle.std.proofs.lemmas.List.{length-append}
+use Rattle.mf_base.specs.Spelling.{vbe_unsigned, zigzag_of, unzigzag_of, sevens}
+use Rattle.mf_base.proofs.NumberLemmas.{zigzag-there}
+use Rattle.mf_base.proofs.OneSpelling.{length-vbe-positive}
+use Rattle.osm_model.specs.Wire.{runs, packed_numbers}
+use Rattle.osm_model.specs.Objects.{column, column_from, TagRun, by_zero, tag_runs}
+use Rattle.osm_model.proofs.PackedLaws.{runs-nil, runs-append}
+use Rattle.osm_model.proofs.ColumnLaws.{column_from-cons}
+use Rattle.osm_model.proofs.TagRunLaws.{run-closed}
+use Rattle.pbf_frame.specs.declared.stored.StoredNode.{StoredNode}
+use Rattle.pbf_frame.specs.FirstForm.{packed, differences, tag_part, dense_nodes, AreFirstNodes}
+use Rattle.pbf_frame.specs.Columns.{ColumnsLeft, whole_columns, column_fields, IsStoredPlace, SpellsNodes, BeginWith, numbers_left, side_by_side, nodes_left, AreNodes}
+use Rattle.pbf_frame.proofs.Shortest.{short-spelling}
+use Rattle.pbf_frame.proofs.Found.{lat-near, lon-near}
+
+-- ---- the columns of some nodes
+
+abbrev ids_of : List StoredNode → List ℤ
+ids_of nodes = map (λ (n : StoredNode). pos n.id) nodes
+
+abbrev lats_of : List StoredNode → List ℤ
+lats_of nodes = map (λ (n : StoredNode). n.lat) nodes
+
+abbrev lons_of : List StoredNode → List ℤ
+lons_of nodes = map (λ (n : StoredNode). n.lon) nodes
+
+abbrev parts_of : List StoredNode → List ℕ
+parts_of nodes = flat_map (λ (n : StoredNode). tag_part n.tagged) nodes
+
+-- what is left behind a node, if these follow
+abbrev pub behind : StoredNode → List StoredNode → ColumnsLeft
+behind n ns = record {
+  ids = packed (differences (pos n.id) (ids_of ns));
+  lats = packed (differences n.lat (lats_of ns));
+  lons = packed (differences n.lon (lons_of ns));
+  parts = parts_of ns;
+  id = n.id;
+  lat = n.lat;
+  lon = n.lon;
+}
+
+-- ---- numbers
+
+packed_numbers-nil : packed_numbers [] ≡ []
+packed_numbers-nil = ap (map sevens) runs-nil
+
+packed_numbers-cons : (n : ℕ) (rest : List ℕ) → packed_numbers (vbe_unsigned n ++ rest) ≡ n ∷ packed_numbers rest
+packed_numbers-cons n rest =
+    let s = short-spelling n in
+    ap (map sevens) (runs-append (vbe_unsigned n) rest s.run) ∙ ap (λ (k : ℕ). k ∷ packed_numbers rest) (sym s.value)
+
+column_from-nil : (before : ℤ) → column_from before [] ≡ []
+unfolding column
+column_from-nil before = refl
+
+plus_difference : (z before : ℤ) → before +ℤ (z -ℤ before) ≡ z
+plus_difference z before = grind arith
+
+numbers-cons : (z before : ℤ) (rest : List ℕ) → numbers_left before (vbe_unsigned (zigzag_of (z -ℤ before)) ++ rest) ≡ z ∷ numbers_left z rest
+numbers-cons z before rest =
+    let d : ℤ = z -ℤ before in
+    ap (λ (ns : List ℕ). column_from before (map unzigzag_of ns)) (packed_numbers-cons (zigzag_of d) rest)
+    ∙ ap (λ (x : ℤ). column_from before (x ∷ map unzigzag_of (packed_numbers rest))) (zigzag-there d)
+    ∙ column_from-cons before d (map unzigzag_of (packed_numbers rest))
+    ∙ ap (λ (x : ℤ). x ∷ numbers_left x rest) (plus_difference z before)
+
+-- a delta column tells its numbers
+numbers-is : (before : ℤ) (zs : List ℤ) → numbers_left before (packed (differences before zs)) ≡ zs
+numbers-is before [] = ap (λ (ns : List ℕ). column_from before (map unzigzag_of ns)) packed_numbers-nil ∙ column_from-nil before
+numbers-is before (z ∷ zs) = numbers-cons z before (packed (differences z zs)) ∙ ap (λ (ys : List ℤ). z ∷ ys) (numbers-is z zs)
+
+-- ---- keys_vals
+
+abbrev run_of : Bool → TagRun
+run_of true = record { pairs = (1, 2) ∷ []; ends = by_zero }
+run_of false = record { pairs = []; ends = by_zero }
+
+run-first : (tagged : Bool) (rest : List ℕ) → tag_runs (tag_part tagged ++ rest) ≡ run_of tagged ∷ tag_runs rest
+run-first true rest = run-closed ((1, 2) ∷ []) rest (omega arith, tt)
+run-first false rest = run-closed [] rest tt
+
+runs-none : tag_runs [] ≡ []
+unfolding tag_runs
+runs-none = refl
+
+runs-is : (nodes : List StoredNode) → tag_runs (parts_of nodes) ≡ map (λ (n : StoredNode). run_of n.tagged) nodes
+runs-is [] = runs-none
+runs-is (n ∷ ns) = run-first n.tagged (parts_of ns) ∙ ap (λ (rs : List TagRun). run_of n.tagged ∷ rs) (runs-is ns)
+
+-- ---- nodes
+
+told_tag : (tagged : Bool) → nat_lt 0 (length (run_of tagged).pairs) ≡ tagged
+told_tag true = refl
+told_tag false = refl
+
+side_by_side-is : (nodes : List StoredNode) → side_by_side (ids_of nodes) (lats_of nodes) (lons_of nodes) (map (λ (n : StoredNode). run_of n.tagged) nodes) ≡ nodes
+side_by_side-is [] = refl
+side_by_side-is (n ∷ ns) =
+    ap (λ (t : Bool). record n { tagged = t } ∷ side_by_side (ids_of ns) (lats_of ns) (lons_of ns) (map (λ (m : StoredNode). run_of m.tagged) ns)) (told_tag n.tagged)
+    ∙ ap (λ (ms : List StoredNode). n ∷ ms) (side_by_side-is ns)
+
+-- columns that spell nodes tell them
+pub nodes-are : (c : ColumnsLeft) (nodes : List StoredNode) → SpellsNodes c nodes → nodes_left c ≡ nodes
+unfolding nodes_left
+nodes-are c nodes s =
+    ap (λ (ids : List ℤ). side_by_side ids (numbers_left c.lat c.lats) (numbers_left c.lon c.lons) (tag_runs c.parts)) (ap (numbers_left (pos c.id)) s.ids ∙ numbers-is (pos c.id) (ids_of nodes))
+    ∙ ap (λ (lats : List ℤ). side_by_side (ids_of nodes) lats (numbers_left c.lon c.lons) (tag_runs c.parts)) (ap (numbers_left c.lat) s.lats ∙ numbers-is c.lat (lats_of nodes))
+    ∙ ap (λ (lons : List ℤ). side_by_side (ids_of nodes) (lats_of nodes) lons (tag_runs c.parts)) (ap (numbers_left c.lon) s.lons ∙ numbers-is c.lon (lons_of nodes))
+    ∙ ap (side_by_side (ids_of nodes) (lats_of nodes) (lons_of nodes)) (ap tag_runs s.parts ∙ runs-is nodes)
+    ∙ side_by_side-is nodes
+
+pub are-spelled : (c : ColumnsLeft) (nodes : List StoredNode) → SpellsNodes c nodes → AreNodes c
+are-spelled c nodes s = subst (λ (ns : List StoredNode). SpellsNodes c ns) (sym (nodes-are c nodes s)) s
+
+-- ---- the first node
+
+pub first-node : (c : ColumnsLeft) (n : StoredNode) (ns : List StoredNode) → SpellsNodes c (n ∷ ns) → BeginWith c n (behind n ns)
+first-node c n ns s = record {
+  ids = s.ids;
+  lats = s.lats;
+  lons = s.lons;
+  parts = s.parts;
+  rises = s.sound.0;
+  below = s.sound.1;
+  place = s.sound.2;
+  id = refl;
+  lat = refl;
+  lon = refl;
+}
+
+pub behind-spelled : (c : ColumnsLeft) (n : StoredNode) (ns : List StoredNode) → SpellsNodes c (n ∷ ns) → SpellsNodes (behind n ns) ns
+behind-spelled c n ns s = record { ids = refl; lats = refl; lons = refl; parts = refl; before = s.sound.2; sound = s.sound.3 }
+
+-- a node before others
+node-before : (c left : ColumnsLeft) (n : StoredNode) (ns : List StoredNode) → IsStoredPlace c.lat c.lon → BeginWith c n left → SpellsNodes left ns → SpellsNodes c (n ∷ ns)
+node-before c left n ns before b s = record {
+  ids = b.ids ∙ ap (λ (x : List ℕ). vbe_unsigned (zigzag_of (pos n.id -ℤ pos c.id)) ++ x) (s.ids ∙ ap (λ (k : ℕ). packed (differences (pos k) (ids_of ns))) b.id);
+  lats = b.lats ∙ ap (λ (x : List ℕ). vbe_unsigned (zigzag_of (n.lat -ℤ c.lat)) ++ x) (s.lats ∙ ap (λ (z : ℤ). packed (differences z (lats_of ns))) b.lat);
+  lons = b.lons ∙ ap (λ (x : List ℕ). vbe_unsigned (zigzag_of (n.lon -ℤ c.lon)) ++ x) (s.lons ∙ ap (λ (z : ℤ). packed (differences z (lons_of ns))) b.lon);
+  parts = b.parts ∙ ap (λ (x : List ℕ). tag_part n.tagged ++ x) s.parts;
+  before = before;
+  sound = (b.rises, b.below, b.place, subst (λ (k : ℕ). AreFirstNodes k ns) b.id s.sound);
+}
+
+pub are-before : (c left : ColumnsLeft) (n : StoredNode) → IsStoredPlace c.lat c.lon → BeginWith c n left → AreNodes left → AreNodes c
+are-before c left n before b s = are-spelled c (n ∷ nodes_left left) (node-before c left n (nodes_left left) before b s)
+
+pub place-left : (c left : ColumnsLeft) (n : StoredNode) → BeginWith c n left → IsStoredPlace left.lat left.lon
+place-left c left n b = rw (b.lat, b.lon) b.place
+
+-- ---- the differences
+
+-- stored numbers of at most so many degrees
+near : (z : ℤ) → nat_abs (pos 100 *ℤ z) ≤ 180000000000 → nat_abs z ≤ 1800000000
+near z le = omega (arith, le, unsigned_abs-mul (pos 100) z)
+
+difference-fits : (y z : ℤ) → nat_abs y ≤ 1800000000 → nat_abs z ≤ 1800000000 → FitsSigned w64 (z -ℤ y)
+difference-fits y z l m = fits_signed_from_abs w64 (z -ℤ y) (omega (arith, ints, l, m))
+
+number-fits : (z : ℤ) → nat_abs z ≤ 1800000000 → FitsSigned w64 z
+number-fits z l = fits_signed_from_abs w64 z (omega (arith, l))
+
+-- What the numbers of a node and its differences are: sint64.
+pub record NodeFits (c : ColumnsLeft) (n : StoredNode) : Type 0 where
+  pub lat : FitsSigned w64 n.lat
+  pub lon : FitsSigned w64 n.lon
+  pub lat_more : FitsSigned w64 (n.lat -ℤ c.lat)
+  pub lon_more : FitsSigned w64 (n.lon -ℤ c.lon)
+
+pub node-fits : (c left : ColumnsLeft) (n : StoredNode) → IsStoredPlace c.lat c.lon → BeginWith c n left → NodeFits c n
+node-fits c left n before b =
+    let lat = near c.lat (lat-near c.lat c.lon before) in
+    let lon = near c.lon (lon-near c.lat c.lon before) in
+    let next_lat = near n.lat (lat-near n.lat n.lon b.place) in
+    let next_lon = near n.lon (lon-near n.lat n.lon b.place) in
+    record {
+      lat = number-fits n.lat next_lat;
+      lon = number-fits n.lon next_lon;
+      lat_more = difference-fits c.lat n.lat lat next_lat;
+      lon_more = difference-fits c.lon n.lon lon next_lon;
+    }
+
+-- ---- the end
+
+pub record AreRead (c : ColumnsLeft) : Type 0 where
+  pub ids : c.ids ≡ []
+  pub lats : c.lats ≡ []
+  pub lons : c.lons ≡ []
+  pub parts : c.parts ≡ []
+
+pub read-spelled : (c : ColumnsLeft) → IsStoredPlace c.lat c.lon → AreRead c → SpellsNodes c []
+read-spelled c before r = record { ids = r.ids; lats = r.lats; lons = r.lons; parts = r.parts; before = before; sound = tt }
+
+none-read : (c : ColumnsLeft) → SpellsNodes c [] → AreRead c
+none-read c s = record { ids = s.ids; lats = s.lats; lons = s.lons; parts = s.parts }
+
+-- read columns begin with no node
+pub none-first : (c left : ColumnsLeft) (n : StoredNode) → c.ids ≡ [] → BeginWith c n left → ⊥
+none-first c left n none b =
+    let k = zigzag_of (pos n.id -ℤ pos c.id) in
+    omega (arith, length-vbe-positive 128 0 k (omega arith), length-append (vbe_unsigned k) left.ids, ap length b.ids, ap length none)
+
+-- ---- what the reader of the first node tells of all
+
+-- The answer is the first node, if there is one.
+abbrev pub Answers : ColumnsLeft → Option (StoredNode × ColumnsLeft) → Type 0
+Answers c answer = (n : StoredNode) → (left : ColumnsLeft) → BeginWith c n left → answer ≡ Some (n, left)
+
+some-is : {A : Type 0} (x y : A) → Some x ≡ Some y → x ≡ y
+some-is x y e = cc
+
+none_is_no_node : (n : StoredNode) (left : ColumnsLeft) → ◌≡◌ {A = Option (StoredNode × ColumnsLeft)} None (Some (n, left)) → ⊥
+none_is_no_node n left e = cc
+
+-- there is no node where none is answered
+no_nodes : (c : ColumnsLeft) (ns : List StoredNode) → Answers c None → SpellsNodes c ns → ns ≡ []
+no_nodes c [] only s = refl
+no_nodes c (n ∷ ns) only s = absurd (none_is_no_node n (behind n ns) (only n (behind n ns) (first-node c n ns s)))
+
+pub no-nodes : (c : ColumnsLeft) → Answers c None → AreNodes c → nodes_left c ≡ []
+no-nodes c only s = no_nodes c (nodes_left c) only s
+
+pub all-read : (c : ColumnsLeft) → Answers c None → AreNodes c → AreRead c
+all-read c only s = none-read c (subst (λ (ns : List StoredNode). SpellsNodes c ns) (no-nodes c only s) s)
+
+-- Of the nodes the answered one is the first, and the others are left.
+pub record FirstOf (c : ColumnsLeft) (n : StoredNode) (left : ColumnsLeft) : Type 0 where
+  pub nodes : nodes_left c ≡ n ∷ nodes_left left
+  pub others : AreNodes left
+
+first_of_them : (c left : ColumnsLeft) (n : StoredNode) (ns : List StoredNode) → BeginWith c n left → Answers c (Some (n, left)) → SpellsNodes c ns → FirstOf c n left
+first_of_them c left n [] b only s = absurd (none-first c left n s.ids b)
+first_of_them c left n (m ∷ ms) b only s =
+    let pair : (n, left) ≡ (m, behind m ms) = some-is (n, left) (m, behind m ms) (only m (behind m ms) (first-node c m ms s)) in
+    subst (λ (p : StoredNode × ColumnsLeft). FirstOf c p.0 p.1) (sym pair) (record {
+      nodes = nodes-are c (m ∷ ms) s ∙ ap (λ (ns : List StoredNode). m ∷ ns) (sym (nodes-are (behind m ms) ms (behind-spelled c m ms s)));
+      others = are-spelled (behind m ms) ms (behind-spelled c m ms s);
+    })
+
+pub first-of : (c left : ColumnsLeft) (n : StoredNode) → BeginWith c n left → Answers c (Some (n, left)) → AreNodes c → FirstOf c n left
+first-of c left n b only s = first_of_them c left n (nodes_left c) b only s
+
+-- ---- whole columns
+
+-- the columns of nodes
+abbrev pub columns_of : List StoredNode → ColumnsLeft
+columns_of nodes = whole_columns (packed (differences (pos 0) (ids_of nodes))) (packed (differences (pos 0) (lats_of nodes))) (packed (differences (pos 0) (lons_of nodes))) (parts_of nodes)
+
+pub dense-columns : (nodes : List StoredNode) → dense_nodes nodes ≡ column_fields (columns_of nodes).ids (columns_of nodes).lats (columns_of nodes).lons (columns_of nodes).parts
+unfolding dense_nodes column_fields
+dense-columns nodes = refl
+
+pub whole-spelled : (nodes : List StoredNode) → AreFirstNodes 0 nodes → SpellsNodes (columns_of nodes) nodes
+whole-spelled nodes sound = record { ids = refl; lats = refl; lons = refl; parts = refl; before = refl; sound = sound }
