@@ -1,19 +1,20 @@
 -- Columns spell the nodes that they tell, and begin with the first of them.
 use Rattle.std.proofs.Common.{◌≡◌, ℕ, zero, suc, ◌+◌, ◌<◌, ◌≤◌, ◌^◌, Bool, true, false, List, [], ◌∷◌, ◌++◌, length, map, refl, sym, ap, subst, ◌∙◌, arith, Option, Some, None}
 use Rattle.std.specs.Prelude.{flat_map, nat_lt, ℤ, pos, negsuc, nat_abs, ◌+ℤ◌, ◌-ℤ◌, ◌*ℤ◌, FitsSigned}
-use Rattle.std.specs.Int.{w64}
-use Rattle.std.proofs.lemmas.Int.{ints, fits_signed_from_abs, unsigned_abs-mul}
+use Rattle.std.specs.Int.{w64, cast_signed, cast_unsigned}
+use Rattle.std.proofs.lemmas.Int.{ints, to_z-of_z, fits_signed_from_abs, unsigned_abs-mul}
 use Rattle.std.proofs.lemmas.List.{length-append}
 use Rattle.mf_base.specs.Spelling.{vbe_unsigned, zigzag_of, unzigzag_of, sevens}
 use Rattle.mf_base.proofs.NumberLemmas.{zigzag-there}
 use Rattle.mf_base.proofs.OneSpelling.{length-vbe-positive}
+use Rattle.osm_model.specs.Blocks.{is_coordinate}
 use Rattle.osm_model.specs.Wire.{runs, packed_numbers}
 use Rattle.osm_model.specs.Objects.{column, column_from, TagRun, by_zero, tag_runs}
 use Rattle.osm_model.proofs.PackedLaws.{runs-nil, runs-append}
 use Rattle.osm_model.proofs.ColumnLaws.{column_from-cons}
 use Rattle.osm_model.proofs.TagRunLaws.{run-closed}
 use Rattle.pbf_frame.specs.declared.stored.StoredNode.{StoredNode}
-use Rattle.pbf_frame.specs.FirstForm.{packed, differences, tag_part, dense_nodes, AreFirstNodes}
+use Rattle.pbf_frame.specs.FirstForm.{plain_head, packed, differences, tag_part, dense_nodes, AreFirstNodes}
 use Rattle.pbf_frame.specs.Columns.{ColumnsLeft, whole_columns, column_fields, IsStoredPlace, SpellsNodes, BeginWith, numbers_left, side_by_side, nodes_left, AreNodes}
 use Rattle.pbf_frame.proofs.Shortest.{short-spelling}
 use Rattle.pbf_frame.proofs.Found.{lat-near, lon-near}
@@ -165,24 +166,34 @@ difference-fits y z l m = fits_signed_from_abs w64 (z -ℤ y) (omega (arith, int
 number-fits : (z : ℤ) → nat_abs z ≤ 1800000000 → FitsSigned w64 z
 number-fits z l = fits_signed_from_abs w64 z (omega (arith, l))
 
--- What the numbers of a node and its differences are: sint64.
-pub record NodeFits (c : ColumnsLeft) (n : StoredNode) : Type 0 where
+-- a number as the code keeps it
+abbrev kept : ℤ → ℤ
+kept z = cast_signed w64 (cast_unsigned w64 z)
+
+-- The coordinates of the first node and their differences are sint64, and stand at the front of their columns.
+pub record NodeFits (c : ColumnsLeft) (n : StoredNode) (left : ColumnsLeft) : Type 0 where
   pub lat : FitsSigned w64 n.lat
   pub lon : FitsSigned w64 n.lon
-  pub lat_more : FitsSigned w64 (n.lat -ℤ c.lat)
-  pub lon_more : FitsSigned w64 (n.lon -ℤ c.lon)
+  pub lat_more : FitsSigned w64 (n.lat -ℤ kept c.lat)
+  pub lon_more : FitsSigned w64 (n.lon -ℤ kept c.lon)
+  pub lats : c.lats ≡ vbe_unsigned (zigzag_of (n.lat -ℤ kept c.lat)) ++ left.lats
+  pub lons : c.lons ≡ vbe_unsigned (zigzag_of (n.lon -ℤ kept c.lon)) ++ left.lons
 
-pub node-fits : (c left : ColumnsLeft) (n : StoredNode) → IsStoredPlace c.lat c.lon → BeginWith c n left → NodeFits c n
+pub node-fits : (c left : ColumnsLeft) (n : StoredNode) → IsStoredPlace c.lat c.lon → BeginWith c n left → NodeFits c n left
 node-fits c left n before b =
     let lat = near c.lat (lat-near c.lat c.lon before) in
     let lon = near c.lon (lon-near c.lat c.lon before) in
     let next_lat = near n.lat (lat-near n.lat n.lon b.place) in
     let next_lon = near n.lon (lon-near n.lat n.lon b.place) in
+    let lat_is : kept c.lat ≡ c.lat = to_z-of_z w64 c.lat (number-fits c.lat lat) in
+    let lon_is : kept c.lon ≡ c.lon = to_z-of_z w64 c.lon (number-fits c.lon lon) in
     record {
       lat = number-fits n.lat next_lat;
       lon = number-fits n.lon next_lon;
-      lat_more = difference-fits c.lat n.lat lat next_lat;
-      lon_more = difference-fits c.lon n.lon lon next_lon;
+      lat_more = subst (λ (z : ℤ). FitsSigned w64 (n.lat -ℤ z)) (sym lat_is) (difference-fits c.lat n.lat lat next_lat);
+      lon_more = subst (λ (z : ℤ). FitsSigned w64 (n.lon -ℤ z)) (sym lon_is) (difference-fits c.lon n.lon lon next_lon);
+      lats = subst (λ (z : ℤ). c.lats ≡ vbe_unsigned (zigzag_of (n.lat -ℤ z)) ++ left.lats) (sym lat_is) b.lats;
+      lons = subst (λ (z : ℤ). c.lons ≡ vbe_unsigned (zigzag_of (n.lon -ℤ z)) ++ left.lons) (sym lon_is) b.lons;
     }
 
 -- ---- the end
@@ -257,3 +268,24 @@ dense-columns nodes = refl
 
 pub whole-spelled : (nodes : List StoredNode) → AreFirstNodes 0 nodes → SpellsNodes (columns_of nodes) nodes
 whole-spelled nodes sound = record { ids = refl; lats = refl; lons = refl; parts = refl; before = refl; sound = sound }
+
+-- ---- the answer of the first node
+
+pub off_earth : (answer : Bool) (lat lon : ℤ) (n : StoredNode) → answer ≡ is_coordinate plain_head (kept lat) (kept lon) → answer ≡ false → FitsSigned w64 n.lat → FitsSigned w64 n.lon → lat ≡ n.lat → lon ≡ n.lon → IsStoredPlace n.lat n.lon → ⊥
+off_earth answer lat lon n is none f g e h place =
+    let far : false ≡ true = sym none ∙ is ∙ ap (λ (z : ℤ). is_coordinate plain_head (kept z) (kept lon)) e ∙ ap (λ (z : ℤ). is_coordinate plain_head (kept n.lat) (kept z)) h ∙ (rw (to_z-of_z w64 n.lat f, to_z-of_z w64 n.lon g) place) in
+    cc
+
+same_node : (n : StoredNode) (id : ℕ) (lat lon : ℤ) (tagged : Bool) → id ≡ n.id → lat ≡ n.lat → lon ≡ n.lon → tagged ≡ n.tagged → record n { id = id; lat = lat; lon = lon; tagged = tagged } ≡ n
+same_node n id lat lon tagged e f g h = rw (e, f, g, h) refl
+
+pub shorter : (c left : ColumnsLeft) (n : StoredNode) → BeginWith c n left → length left.ids < length c.ids
+shorter c left n b =
+    let k = zigzag_of (pos n.id -ℤ pos c.id) in
+    omega (arith, length-vbe-positive 128 0 k (omega arith), length-append (vbe_unsigned k) left.ids, ap length b.ids)
+
+pub first-is : (n : StoredNode) (left : ColumnsLeft) (id : ℕ) (lat lon : ℤ) (tagged : Bool) (ids lats lons parts : List ℕ) → FitsSigned w64 n.lat → FitsSigned w64 n.lon
+    → (id ≡ n.id) × (ids ≡ left.ids) → (lat ≡ n.lat) × (lats ≡ left.lats) → (lon ≡ n.lon) × (lons ≡ left.lons) → (tagged ≡ n.tagged) × (parts ≡ left.parts) → left.id ≡ n.id → left.lat ≡ n.lat → left.lon ≡ n.lon
+    → ◌≡◌ {A = StoredNode × ColumnsLeft} (record { id = id; lat = kept lat; lon = kept lon; tagged = tagged }, record { ids = ids; lats = lats; lons = lons; parts = parts; id = id; lat = kept lat; lon = kept lon }) (n, left)
+first-is n left id lat lon tagged ids lats lons parts f g first second third fourth e h k =
+    rw (first.0, first.1, second.0, second.1, third.0, third.1, fourth.0, fourth.1, to_z-of_z w64 n.lat f, to_z-of_z w64 n.lon g, ← e, ← h, ← k) refl
