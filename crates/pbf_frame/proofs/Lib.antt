@@ -7,3 +7,4 @@ pub mod HeaderOnly
 pub mod Fronts
 pub mod NodeLaws
 pub mod OneValue
+pub mod DataLaws

@@ -69,15 +69,15 @@ one_columns ids lats lons parts a b c d e =
     let third = one_field 74 lons c (82 ∷ string parts) (82 ∷ string d) second.1 in
     record { first = first.0; second = second.0; third = third.0; fourth = one_last_field 82 parts d third.1 }
 
+pub same_whole : (ids lats lons parts a b c d : List ℕ) → SameColumns ids lats lons parts a b c d → whole_columns ids lats lons parts ≡ whole_columns a b c d
+same_whole ids lats lons parts a b c d s = rw (s.first, s.second, s.third, s.fourth) refl
+
 pub one_dense : (ns ms : List StoredNode) → AreFirstNodes 0 ns → AreFirstNodes 0 ms → dense_nodes ns ≡ dense_nodes ms → ns ≡ ms
 one_dense ns ms sound good e =
     let c : ColumnsLeft = columns_of ns in
     let d : ColumnsLeft = columns_of ms in
     let same = one_columns c.ids c.lats c.lons c.parts d.ids d.lats d.lons d.parts (sym (dense-columns ns) ∙ e ∙ dense-columns ms) in
     sym (nodes-are c ns (whole-spelled ns sound)) ∙ ap nodes_left (same_whole c.ids c.lats c.lons c.parts d.ids d.lats d.lons d.parts same) ∙ nodes-are d ms (whole-spelled ms good)
-  where
-    same_whole : (ids lats lons parts a b c d : List ℕ) → SameColumns ids lats lons parts a b c d → whole_columns ids lats lons parts ≡ whole_columns a b c d
-    same_whole ids lats lons parts a b c d s = rw (s.first, s.second, s.third, s.fourth) refl
 
 same_data : (d f : FirstData) → d.key ≡ f.key → d.value ≡ f.value → d.nodes ≡ f.nodes → d ≡ f
 same_data d f e g h = ap (λ (text : Text). record d { key = text }) e ∙ ap (λ (text : Text). record d { key = f.key; value = text }) g ∙ ap (λ (ns : List StoredNode). record f { nodes = ns }) h

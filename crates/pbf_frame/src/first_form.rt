@@ -56,7 +56,7 @@ fn held_in(bytes: &[u8]) -> Option<Option<Data<'_>>>
     ensures found { IfSome result (λ held. (bytes.now ≡ data_blob held) × MatchOption held ⊤ IsFirstData) }
     ensures only { (held : Option FirstData) → MatchOption held ⊤ IsFirstData → bytes.now ≡ data_blob held → result ≡ Some held }
 {
-    if bytes.is_empty() {
+    if is_end(bytes) {
         return Some(None);
     }
     let (raw, rest) = blob_of(bytes, b"OSMData")?;
