@@ -1,16 +1,15 @@
 -- What the reader of the data block finds, and what it passes on the way.
-use Rattle.std.proofs.Common.{◌≡◌, ◌≢◌, ℕ, Bool, true, false, List, [], ◌∷◌, ◌++◌, length, refl, sym, ap, subst, ◌∙◌, arith, Option, Some, None}
-use Rattle.std.specs.Prelude.{ℤ, pos, codes, MatchOption, ⊤}
+use Rattle.std.proofs.Common.{◌≡◌, ◌≢◌, ℕ, List, [], ◌∷◌, ◌++◌, length, refl, sym, ap, subst, ◌∙◌, arith, Option, Some, None}
+use Rattle.std.specs.Prelude.{codes, MatchOption, ⊤}
 use Rattle.std.proofs.lemmas.List.{append-nil}
 use Rattle.mf_base.specs.Spelling.{string}
-use Rattle.mf_base.specs.Texts.{Text, is_among}
+use Rattle.mf_base.specs.Texts.{Text}
 use Rattle.pbf_frame.specs.declared.stored.StoredNode.{StoredNode}
-use Rattle.pbf_frame.specs.declared.stored.Sides.{Sides}
-use Rattle.pbf_frame.specs.FirstForm.{FirstData, FirstValue, IsFirstData, IsFirstText, AreFirstNodes, kept_keys, blob, header_block, string_table, dense_nodes, primitive_block, data_blob, first_bytes}
-use Rattle.pbf_frame.specs.Columns.{ColumnsLeft, whole_columns, column_fields, SpellsNodes, BeginWith, nodes_left, AreNodes}
+use Rattle.pbf_frame.specs.FirstForm.{FirstData, FirstValue, IsFirstData, AreFirstNodes, blob, header_block, string_table, dense_nodes, primitive_block, data_blob, first_bytes}
+use Rattle.pbf_frame.specs.Columns.{ColumnsLeft, whole_columns, column_fields, SpellsNodes, nodes_left, AreNodes}
 use Rattle.pbf_frame.proofs.Fronts.{some_blob, apart3}
 use Rattle.pbf_frame.proofs.NodeLaws.{columns_of, dense-columns, whole-spelled, are-spelled, first-node, behind, none-first}
-use Rattle.pbf_frame.proofs.OneValue.{SameColumns, same_whole}
+use Rattle.pbf_frame.proofs.OneValue.{same_whole}
 
 -- ---- the columns of nodes
 
@@ -58,9 +57,6 @@ pub table-apart : (key value : Text) → string_table key value ≡ (10 ∷ stri
 unfolding string_table
 table-apart key value = apart3 (10 ∷ string []) (10 ∷ string key) (10 ∷ string value)
 
-pub text-at : (bytes text : List ℕ) → bytes ≡ text → IsFirstText text → IsFirstText bytes
-text-at bytes text e is = subst (λ (x : List ℕ). IsFirstText x) (sym e) is
-
 -- ---- the block
 
 abbrev pub group_of : List StoredNode → List ℕ
@@ -92,21 +88,6 @@ pub record IsDataBlob (bytes : List ℕ) (held : Option FirstData) : Type 0 wher
 pub some-held : (bytes : List ℕ) (held : Option FirstData) → bytes ≢ [] → MatchOption held ⊤ IsFirstData → bytes ≡ data_blob held → IsDataBlob bytes held
 some-held bytes None some sound e = absurd (some e)
 some-held bytes (Some d) some sound e = record { d = d; is = refl; sound = sound; whole = e ∙ sym (append-nil (blob (codes "OSMData") (primitive_block d))) }
-
--- ---- tests
-
--- no test is both
-pub truth : (b : Bool) → b ≡ false → b ≡ true → ⊥
-truth b e f = let both : false ≡ true = sym e ∙ f in cc
-
-pub no_data : (d : FirstData) → ◌≡◌ {A = Option FirstData} None (Some d) → ⊥
-no_data d e = cc
-
-pub no_held : (held : Option FirstData) → ◌≡◌ {A = Option (Option FirstData)} None (Some held) → ⊥
-no_held held e = cc
-
-pub no_sides : (sides : Sides) → ◌≡◌ {A = Option Sides} None (Some sides) → ⊥
-no_sides sides e = cc
 
 -- ---- the input
 

@@ -1,6 +1,6 @@
 -- What the reader found is the spelling of its answer.
-use Rattle.std.proofs.Common.{◌≡◌, ℕ, zero, suc, ◌-◌, ◌/◌, ◌<◌, ◌≤◌, ◌^◌, Bool, true, List, [], ◌∷◌, ◌++◌, length, take, drop, get_or, refl, sym, ap, subst, ◌∙◌, arith, inl, inr}
-use Rattle.std.specs.Prelude.{slice_range, codes, ℤ, pos, negsuc, nat_abs, neg_ℤ, ◌+ℤ◌, ◌-ℤ◌, ◌*ℤ◌, int_div, FitsSigned, Some}
+use Rattle.std.proofs.Common.{◌≡◌, ℕ, zero, suc, ◌-◌, ◌/◌, ◌<◌, ◌≤◌, ◌^◌, true, List, [], ◌∷◌, ◌++◌, length, take, drop, get_or, refl, sym, ap, subst, ◌∙◌, arith, inl, inr}
+use Rattle.std.specs.Prelude.{slice_range, codes, ℤ, pos, negsuc, nat_abs, neg_ℤ, ◌+ℤ◌, ◌*ℤ◌, int_div, FitsSigned}
 use Rattle.std.specs.Int.{w32, w64, cast_signed, cast_unsigned}
 use Rattle.std.proofs.lemmas.Int.{to_z-of_z, fits_signed_from_abs, unsigned_abs-mul}
 use Rattle.std.proofs.lemmas.Str.{is_utf8-from_IsUtf8}
@@ -12,7 +12,7 @@ use Rattle.osm_model.specs.Blocks.{is_coordinate, is_within, latitude_limit, lon
 use Rattle.pbf_frame.specs.declared.first_node.FirstNode.{FirstNode}
 use Rattle.pbf_frame.specs.declared.stored.Sides.{Sides}
 use Rattle.pbf_frame.specs.declared.stored.StoredNode.{StoredNode}
-use Rattle.pbf_frame.specs.FirstForm.{IsFirstText, plain_head, node_told, blob_header, blob, bbox, header_block, string_table, dense_nodes, primitive_block, tag_part, delta_column, first_bytes}
+use Rattle.pbf_frame.specs.FirstForm.{IsFirstText, plain_head, node_told, blob_header, blob, bbox, header_block, string_table}
 use Rattle.pbf_frame.proofs.Shortest.{short-varint, spelled-short}
 
 -- ---- lists
@@ -132,41 +132,6 @@ table-found bytes empty r first s second key value e f g none is that =
     join3 (10 ∷ string []) (10 ∷ string key) (10 ∷ string value) bytes r s
     (e ∙ ap (λ (x : List ℕ). (10 ∷ string x) ++ r) none) (f ∙ ap (λ (x : List ℕ). (10 ∷ string x) ++ s) (sym is)) (g ∙ ap (λ (x : List ℕ). 10 ∷ string x) (sym that))
 
-minus_zero : (z : ℤ) → z -ℤ pos 0 ≡ z
-minus_zero z = grind arith
-
--- a delta column of one number is that number
-pub column-one : (z : ℤ) → delta_column (z ∷ []) ≡ vbe_unsigned (zigzag_of z)
-column-one z = append-nil (vbe_unsigned (zigzag_of (z -ℤ pos 0))) ∙ ap (λ (x : ℤ). vbe_unsigned (zigzag_of x)) (minus_zero z)
-
-pub node-found : (bytes r s t parts : List ℕ) (id : ℕ) (first lat lon : ℤ) (tagged : Bool) → bytes ≡ (10 ∷ string (vbe_unsigned (zigzag_of first))) ++ r → r ≡ (66 ∷ string (vbe_unsigned (zigzag_of lat))) ++ s → s ≡ (74 ∷ string (vbe_unsigned (zigzag_of lon))) ++ t → t ≡ 82 ∷ string parts → parts ≡ tag_part tagged → kept first ≡ pos id
-    → FitsSigned w64 first → FitsSigned w64 lat → FitsSigned w64 lon
-    → bytes ≡ dense_nodes (record { id = id; lat = kept lat; lon = kept lon; tagged = tagged } ∷ [])
-unfolding dense_nodes
-node-found bytes r s t parts id first lat lon tagged e f g h is same k l m =
-    rw (to_z-of_z w64 lat l, to_z-of_z w64 lon m)
-    (join4 (10 ∷ string (delta_column (pos id ∷ []))) (66 ∷ string (delta_column (lat ∷ []))) (74 ∷ string (delta_column (lon ∷ []))) (82 ∷ string (tag_part tagged ++ [])) bytes r s t
-    (e ∙ ap (λ (x : List ℕ). (10 ∷ string x) ++ r) (ap (λ (z : ℤ). vbe_unsigned (zigzag_of z)) (sym (to_z-of_z w64 first k) ∙ same) ∙ sym (column-one (pos id))))
-    (f ∙ ap (λ (x : List ℕ). (66 ∷ string x) ++ s) (sym (column-one lat)))
-    (g ∙ ap (λ (x : List ℕ). (74 ∷ string x) ++ t) (sym (column-one lon)))
-    (h ∙ ap (λ (x : List ℕ). 82 ∷ string x) (is ∙ sym (append-nil (tag_part tagged)))))
-
-pub data-found : (raw table rest group dense key value : List ℕ) (n : StoredNode) → raw ≡ (10 ∷ string table) ++ rest → rest ≡ 18 ∷ string group → group ≡ 18 ∷ string dense → table ≡ string_table key value → dense ≡ dense_nodes (n ∷ []) → raw ≡ primitive_block (record { key = key; value = value; nodes = n ∷ [] })
-unfolding primitive_block
-data-found raw table rest group dense key value n e f g is that =
-    join2 (10 ∷ string (string_table key value)) (18 ∷ string (18 ∷ string (dense_nodes (n ∷ [])))) raw rest (e ∙ ap (λ (x : List ℕ). (10 ∷ string x) ++ rest) is)
-    (f ∙ ap (λ (x : List ℕ). 18 ∷ string x) (g ∙ ap (λ (x : List ℕ). 18 ∷ string x) that))
-
--- ---- the input
-
-pub first-found : (bytes header rest raw more key value : List ℕ) (sides : Sides) (n : StoredNode) → bytes ≡ blob (codes "OSMHeader") header ++ rest → header ≡ header_block sides → rest ≡ blob (codes "OSMData") raw ++ more → more ≡ [] → raw ≡ primitive_block (record { key = key; value = value; nodes = n ∷ [] })
-    → bytes ≡ first_bytes (record { sides = sides; held = Some (record { key = key; value = value; nodes = n ∷ [] }) })
-unfolding first_bytes
-first-found bytes header rest raw more key value sides n e is f none that =
-    join2 (blob (codes "OSMHeader") (header_block sides)) (blob (codes "OSMData") (primitive_block (record { key = key; value = value; nodes = n ∷ [] }))) bytes rest
-    (e ∙ ap (λ (x : List ℕ). blob (codes "OSMHeader") x ++ rest) is)
-    (ends (blob (codes "OSMData") raw) rest more f none ∙ ap (blob (codes "OSMData")) that)
-
 -- ---- places
 
 abs-neg : (k : ℕ) → nat_abs (neg_ℤ (pos k)) ≡ k
@@ -222,9 +187,6 @@ hundred-near z le = omega (arith, le, ap nat_abs (hundred-is z le ∙ zero-plus 
 
 -- ---- parts of facts
 
-pub rest-of : {A B : Type 0} → A × B → B
-rest-of (a, b) = b
-
 pub text-moved : (text bytes : List ℕ) → (text ≡ bytes) × IsFirstText bytes → IsFirstText text
 text-moved text bytes (e, is) = subst (λ (x : List ℕ). IsFirstText x) (sym e) is
 
@@ -257,12 +219,4 @@ pub ruleset side_steps = (sides-found)
 
 pub ruleset block_steps = (block-found)
 
-pub ruleset table_steps = (table-found)
-
-pub ruleset node_steps = (node-found)
-
-pub ruleset data_steps = (data-found)
-
 pub ruleset text_steps = (is_utf8-from_IsUtf8)
-
-pub ruleset first_steps = (first-found)

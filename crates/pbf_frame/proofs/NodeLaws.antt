@@ -1,23 +1,26 @@
 -- Columns spell the nodes that they tell, and begin with the first of them.
-use Rattle.std.proofs.Common.{◌≡◌, ℕ, zero, suc, ◌+◌, ◌<◌, ◌≤◌, ◌^◌, Bool, true, false, List, [], ◌∷◌, ◌++◌, length, map, refl, sym, ap, subst, ◌∙◌, arith, Option, Some, None}
-use Rattle.std.specs.Prelude.{flat_map, nat_lt, ℤ, pos, negsuc, nat_abs, ◌+ℤ◌, ◌-ℤ◌, ◌*ℤ◌, FitsSigned}
-use Rattle.std.specs.Int.{w64, cast_signed, cast_unsigned}
+use Rattle.std.proofs.Common.{◌≡◌, ℕ, ◌<◌, ◌≤◌, Bool, true, false, List, [], ◌∷◌, ◌++◌, length, map, refl, sym, ap, subst, ◌∙◌, arith, Option, Some, None}
+use Rattle.std.specs.Prelude.{flat_map, nat_lt, ℤ, pos, nat_abs, ◌+ℤ◌, ◌-ℤ◌, ◌*ℤ◌, FitsSigned}
+use Rattle.std.specs.Int.{w64}
 use Rattle.std.proofs.lemmas.Int.{ints, to_z-of_z, fits_signed_from_abs, unsigned_abs-mul}
 use Rattle.std.proofs.lemmas.List.{length-append}
+use Rattle.std.proofs.lemmas.Option.{none-some}
 use Rattle.mf_base.specs.Spelling.{vbe_unsigned, zigzag_of, unzigzag_of, sevens}
 use Rattle.mf_base.proofs.NumberLemmas.{zigzag-there}
+use Rattle.mf_base.proofs.StepLaws.{some_is}
 use Rattle.mf_base.proofs.OneSpelling.{length-vbe-positive}
 use Rattle.osm_model.specs.Blocks.{is_coordinate}
-use Rattle.osm_model.specs.Wire.{runs, packed_numbers}
+use Rattle.osm_model.specs.Wire.{packed_numbers}
 use Rattle.osm_model.specs.Objects.{column, column_from, TagRun, by_zero, tag_runs}
 use Rattle.osm_model.proofs.PackedLaws.{runs-nil, runs-append}
 use Rattle.osm_model.proofs.ColumnLaws.{column_from-cons}
+use Rattle.osm_model.proofs.TableLaws.{true_no_false}
 use Rattle.osm_model.proofs.TagRunLaws.{run-closed}
 use Rattle.pbf_frame.specs.declared.stored.StoredNode.{StoredNode}
 use Rattle.pbf_frame.specs.FirstForm.{plain_head, packed, differences, tag_part, dense_nodes, AreFirstNodes}
 use Rattle.pbf_frame.specs.Columns.{ColumnsLeft, whole_columns, column_fields, IsStoredPlace, SpellsNodes, BeginWith, numbers_left, side_by_side, nodes_left, AreNodes}
 use Rattle.pbf_frame.proofs.Shortest.{short-spelling}
-use Rattle.pbf_frame.proofs.Found.{lat-near, lon-near}
+use Rattle.pbf_frame.proofs.Found.{kept, lat-near, lon-near}
 
 -- ---- the columns of some nodes
 
@@ -166,10 +169,6 @@ difference-fits y z l m = fits_signed_from_abs w64 (z -ℤ y) (omega (arith, int
 number-fits : (z : ℤ) → nat_abs z ≤ 1800000000 → FitsSigned w64 z
 number-fits z l = fits_signed_from_abs w64 z (omega (arith, l))
 
--- a number as the code keeps it
-abbrev kept : ℤ → ℤ
-kept z = cast_signed w64 (cast_unsigned w64 z)
-
 -- The coordinates of the first node and their differences are sint64, and stand at the front of their columns.
 pub record NodeFits (c : ColumnsLeft) (n : StoredNode) (left : ColumnsLeft) : Type 0 where
   pub lat : FitsSigned w64 n.lat
@@ -222,16 +221,10 @@ none-first c left n none b =
 abbrev pub Answers : ColumnsLeft → Option (StoredNode × ColumnsLeft) → Type 0
 Answers c answer = (n : StoredNode) → (left : ColumnsLeft) → BeginWith c n left → answer ≡ Some (n, left)
 
-some-is : {A : Type 0} (x y : A) → Some x ≡ Some y → x ≡ y
-some-is x y e = cc
-
-none_is_no_node : (n : StoredNode) (left : ColumnsLeft) → ◌≡◌ {A = Option (StoredNode × ColumnsLeft)} None (Some (n, left)) → ⊥
-none_is_no_node n left e = cc
-
 -- there is no node where none is answered
 no_nodes : (c : ColumnsLeft) (ns : List StoredNode) → Answers c None → SpellsNodes c ns → ns ≡ []
 no_nodes c [] only s = refl
-no_nodes c (n ∷ ns) only s = absurd (none_is_no_node n (behind n ns) (only n (behind n ns) (first-node c n ns s)))
+no_nodes c (n ∷ ns) only s = absurd (none-some (n, behind n ns) (only n (behind n ns) (first-node c n ns s)))
 
 pub no-nodes : (c : ColumnsLeft) → Answers c None → AreNodes c → nodes_left c ≡ []
 no-nodes c only s = no_nodes c (nodes_left c) only s
@@ -247,7 +240,7 @@ pub record FirstOf (c : ColumnsLeft) (n : StoredNode) (left : ColumnsLeft) : Typ
 first_of_them : (c left : ColumnsLeft) (n : StoredNode) (ns : List StoredNode) → BeginWith c n left → Answers c (Some (n, left)) → SpellsNodes c ns → FirstOf c n left
 first_of_them c left n [] b only s = absurd (none-first c left n s.ids b)
 first_of_them c left n (m ∷ ms) b only s =
-    let pair : (n, left) ≡ (m, behind m ms) = some-is (n, left) (m, behind m ms) (only m (behind m ms) (first-node c m ms s)) in
+    let pair : (n, left) ≡ (m, behind m ms) = some_is (n, left) (m, behind m ms) (only m (behind m ms) (first-node c m ms s)) in
     subst (λ (p : StoredNode × ColumnsLeft). FirstOf c p.0 p.1) (sym pair) (record {
       nodes = nodes-are c (m ∷ ms) s ∙ ap (λ (ns : List StoredNode). m ∷ ns) (sym (nodes-are (behind m ms) ms (behind-spelled c m ms s)));
       others = are-spelled (behind m ms) ms (behind-spelled c m ms s);
@@ -273,8 +266,8 @@ whole-spelled nodes sound = record { ids = refl; lats = refl; lons = refl; parts
 
 pub off_earth : (answer : Bool) (lat lon : ℤ) (n : StoredNode) → answer ≡ is_coordinate plain_head (kept lat) (kept lon) → answer ≡ false → FitsSigned w64 n.lat → FitsSigned w64 n.lon → lat ≡ n.lat → lon ≡ n.lon → IsStoredPlace n.lat n.lon → ⊥
 off_earth answer lat lon n is none f g e h place =
-    let far : false ≡ true = sym none ∙ is ∙ ap (λ (z : ℤ). is_coordinate plain_head (kept z) (kept lon)) e ∙ ap (λ (z : ℤ). is_coordinate plain_head (kept n.lat) (kept z)) h ∙ (rw (to_z-of_z w64 n.lat f, to_z-of_z w64 n.lon g) place) in
-    cc
+    let near : answer ≡ true = is ∙ ap (λ (z : ℤ). is_coordinate plain_head (kept z) (kept lon)) e ∙ ap (λ (z : ℤ). is_coordinate plain_head (kept n.lat) (kept z)) h ∙ (rw (to_z-of_z w64 n.lat f, to_z-of_z w64 n.lon g) place) in
+    true_no_false answer near none
 
 same_node : (n : StoredNode) (id : ℕ) (lat lon : ℤ) (tagged : Bool) → id ≡ n.id → lat ≡ n.lat → lon ≡ n.lon → tagged ≡ n.tagged → record n { id = id; lat = lat; lon = lon; tagged = tagged } ≡ n
 same_node n id lat lon tagged e f g h = rw (e, f, g, h) refl

@@ -1,13 +1,13 @@
 -- The bytes of an input tell its value.
-use Rattle.std.proofs.Common.{◌≡◌, ◌≢◌, ℕ, List, [], ◌∷◌, ◌++◌, refl, sym, ap, subst, ◌∙◌, arith, Option, Some, None}
-use Rattle.std.specs.Prelude.{ℤ, pos, codes, MatchOption, ⊤}
-use Rattle.std.proofs.lemmas.List.{append_assoc, append-nil}
+use Rattle.std.proofs.Common.{◌≡◌, ℕ, List, [], ◌∷◌, ◌++◌, refl, sym, ap, ◌∙◌, Option, Some, None}
+use Rattle.std.specs.Prelude.{ℤ, codes, MatchOption, ⊤}
+use Rattle.std.proofs.lemmas.List.{append-nil}
 use Rattle.mf_base.specs.Spelling.{vbe_unsigned, zigzag_of, string}
 use Rattle.mf_base.specs.Texts.{Text}
 use Rattle.pbf_frame.specs.declared.stored.StoredNode.{StoredNode}
 use Rattle.pbf_frame.specs.declared.stored.Sides.{Sides}
 use Rattle.pbf_frame.specs.FirstForm.{FirstData, FirstValue, IsFirstData, IsFirstForm, AreFirstNodes, blob, bbox, header_block, string_table, dense_nodes, primitive_block, data_blob, first_bytes}
-use Rattle.pbf_frame.specs.Columns.{ColumnsLeft, whole_columns, column_fields, SpellsNodes, nodes_left}
+use Rattle.pbf_frame.specs.Columns.{ColumnsLeft, whole_columns, column_fields, nodes_left}
 use Rattle.pbf_frame.proofs.Fronts.{one_field, one_last_field, one_signed_field, one_last_signed, one_blob, some_blob, apart3, apart4}
 use Rattle.pbf_frame.proofs.NodeLaws.{columns_of, nodes-are, dense-columns, whole-spelled}
 

@@ -1,4 +1,4 @@
-use Rattle.std.proofs.Common.{◌≡◌, List, ℕ, ◌∷◌, ◌++◌, ◌∙◌, sym}
+use Rattle.std.proofs.Common.{List, ℕ, ◌∷◌, ◌++◌, ◌∙◌, sym}
 use Rattle.mf_base.specs.Spelling.{string}
 use Rattle.pbf_frame.proofs.OneValue.{columns-apart, one_columns, columns-joined}
 use Rattle.pbf_frame.proofs.dense.columns_in.Goals as goal

@@ -1,4 +1,4 @@
-use Rattle.std.proofs.Common.{◌≡◌, ◌∷◌, sym, ap, ◌∙◌, Some}
+use Rattle.std.proofs.Common.{◌∷◌, sym, ap, ◌∙◌, Some}
 use Rattle.mf_base.specs.Spelling.{string}
 use Rattle.pbf_frame.specs.FirstForm.{FirstData, string_table, dense_nodes}
 use Rattle.pbf_frame.proofs.OneValue.{one_data}

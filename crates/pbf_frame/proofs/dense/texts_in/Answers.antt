@@ -1,10 +1,11 @@
-use Rattle.std.proofs.Common.{◌≡◌, ℕ, List, [], ◌∷◌, ◌++◌, true, sym, ap, ◌∙◌, rules}
+use Rattle.std.proofs.Common.{◌≡◌, ℕ, List, [], ◌∷◌, ◌++◌, sym, ap, ◌∙◌, rules}
 use Rattle.mf_base.specs.Spelling.{string}
 use Rattle.mf_base.specs.Texts.{is_among}
+use Rattle.osm_model.proofs.TableLaws.{true_no_false}
 use Rattle.pbf_frame.specs.FirstForm.{kept_keys}
 use Rattle.pbf_frame.proofs.Found.{table-found, text-moved}
 use Rattle.pbf_frame.proofs.OneValue.{one_table}
-use Rattle.pbf_frame.proofs.DataLaws.{table-apart, text-at, truth}
+use Rattle.pbf_frame.proofs.DataLaws.{table-apart}
 use Rattle.pbf_frame.proofs.dense.texts_in.Goals as goal
 use Rattle.pbf_frame.proofs.dense.texts_in.Goals.{else-is_end-via-then-is_end+else-not-is_kept, else-is_end-via-else-is_end}
 
@@ -30,14 +31,14 @@ pub returns-in_err-key-clause-only : goal.returns-in_err-key-clause-only
 returns-in_err-key-clause-only c key value key_text value_text free e =
     let empty = c.in_ok-empty.ensures.only [] (texts_on key value) (e ∙ table-apart key value) in
     let first = c.in_ok-first.ensures.only key (10 ∷ string value) empty.1 in
-    absurd (c.in_err-key.ensures.only (text-at _ key first.0 key_text))
+    absurd (c.in_err-key.ensures.only (text-moved _ key (first.0, key_text)))
 
 pub returns-in_err-value-clause-only : goal.returns-in_err-value-clause-only
 returns-in_err-value-clause-only c key value key_text value_text free e =
     let empty = c.in_ok-empty.ensures.only [] (texts_on key value) (e ∙ table-apart key value) in
     let first = c.in_ok-first.ensures.only key (10 ∷ string value) empty.1 in
     let second = c.in_ok-second.ensures.only value first.1 in
-    absurd (c.in_err-value.ensures.only (text-at _ value second value_text))
+    absurd (c.in_err-value.ensures.only (text-moved _ value (second, value_text)))
 
 pub returns-then-not-is_kept-clause-found : goal.returns-then-not-is_kept-clause-found
 returns-then-not-is_kept-clause-found c =
@@ -60,6 +61,6 @@ returns-else-is_end-clause-only c key value key_text value_text free e =
     let first = c.in_ok-first.ensures.only key (10 ∷ string value) empty.1 in
     let key_is : c.in_ok-key.key.now ≡ key = c.in_ok-key.ensures.found.0 ∙ first.0 in
     elim c.else-is_end.branch [
-      | else-is_end-via-then-is_end+else-not-is_kept w ↦ truth _ free (ap (is_among kept_keys) (sym key_is) ∙ sym w.is_kept.ensures ∙ w.if-not-is_kept.false)
-      | else-is_end-via-else-is_end w ↦ truth _ w.if-is_end.false (c.is_end.ensures.only empty.0)
+      | else-is_end-via-then-is_end+else-not-is_kept w ↦ true_no_false _ (ap (is_among kept_keys) (sym key_is) ∙ sym w.is_kept.ensures ∙ w.if-not-is_kept.false) free
+      | else-is_end-via-else-is_end w ↦ true_no_false _ (c.is_end.ensures.only empty.0) w.if-is_end.false
     ]

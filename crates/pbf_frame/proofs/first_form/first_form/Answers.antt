@@ -1,8 +1,9 @@
-use Rattle.std.proofs.Common.{◌≡◌, sym, ap, ◌∙◌, Some}
-use Rattle.pbf_frame.specs.FirstForm.{FirstValue, IsFirstForm, header_block, data_blob}
+use Rattle.std.proofs.Common.{sym, ap, ◌∙◌, Some}
+use Rattle.std.proofs.lemmas.Option.{none-some}
+use Rattle.pbf_frame.specs.FirstForm.{FirstValue, header_block, data_blob}
 use Rattle.pbf_frame.proofs.Found.{fits-as}
 use Rattle.pbf_frame.proofs.OneValue.{one_value}
-use Rattle.pbf_frame.proofs.DataLaws.{input-apart, input-found, no_sides, no_held}
+use Rattle.pbf_frame.proofs.DataLaws.{input-apart, input-found}
 use Rattle.pbf_frame.proofs.first_form.first_form.Goals as goal
 
 -- Each refusal: no value has these bytes.
@@ -16,22 +17,22 @@ returns-in_err-header-clause-none c _ v sound e = c.in_err-header.ensures.only (
 pub returns-in_err-sides-clause-only : goal.returns-in_err-sides-clause-only
 returns-in_err-sides-clause-only c v sound e =
     let header = c.in_ok-header.ensures.only (header_block v.sides) (data_blob v.held) (e ∙ input-apart v) in
-    absurd (no_sides v.sides (c.in_err-sides.ensures.only v.sides sound.on_earth header.0))
+    absurd (none-some v.sides (c.in_err-sides.ensures.only v.sides sound.on_earth header.0))
 
 pub returns-in_err-sides-clause-none : goal.returns-in_err-sides-clause-none
 returns-in_err-sides-clause-none c _ v sound e =
     let header = c.in_ok-header.ensures.only (header_block v.sides) (data_blob v.held) (e ∙ input-apart v) in
-    no_sides v.sides (c.in_err-sides.ensures.only v.sides sound.on_earth header.0)
+    none-some v.sides (c.in_err-sides.ensures.only v.sides sound.on_earth header.0)
 
 pub returns-in_err-held-clause-only : goal.returns-in_err-held-clause-only
 returns-in_err-held-clause-only c v sound e =
     let header = c.in_ok-header.ensures.only (header_block v.sides) (data_blob v.held) (e ∙ input-apart v) in
-    absurd (no_held v.held (c.in_err-held.ensures.only v.held sound.sound header.1))
+    absurd (none-some v.held (c.in_err-held.ensures.only v.held sound.sound header.1))
 
 pub returns-in_err-held-clause-none : goal.returns-in_err-held-clause-none
 returns-in_err-held-clause-none c _ v sound e =
     let header = c.in_ok-header.ensures.only (header_block v.sides) (data_blob v.held) (e ∙ input-apart v) in
-    no_held v.held (c.in_err-held.ensures.only v.held sound.sound header.1)
+    none-some v.held (c.in_err-held.ensures.only v.held sound.sound header.1)
 
 pub returns-clause-found : goal.returns-clause-found
 returns-clause-found c =
