@@ -1,20 +1,20 @@
 -- What the reader of the data block finds, and what it passes on the way.
 use Rattle.std.proofs.Common.{◌≡◌, ◌≢◌, ℕ, List, [], ◌∷◌, ◌++◌, length, refl, sym, ap, subst, ◌∙◌, arith, Option, Some, None}
 use Rattle.std.specs.Prelude.{codes, MatchOption, ⊤}
-use Rattle.std.proofs.lemmas.List.{append-nil}
+use Rattle.std.proofs.lemmas.List.{append_assoc, append-nil}
 use Rattle.mf_base.specs.Spelling.{string}
 use Rattle.mf_base.specs.Texts.{Text}
 use Rattle.pbf_frame.specs.declared.stored.StoredNode.{StoredNode}
 use Rattle.pbf_frame.specs.FirstForm.{FirstData, FirstValue, IsFirstData, AreFirstNodes, blob, header_block, string_table, dense_nodes, primitive_block, data_blob, first_bytes}
 use Rattle.pbf_frame.specs.Columns.{ColumnsLeft, whole_columns, column_fields, SpellsNodes, nodes_left, AreNodes}
-use Rattle.pbf_frame.proofs.Fronts.{some_blob, apart3}
+use Rattle.pbf_frame.proofs.Fronts.{some_blob}
 use Rattle.pbf_frame.proofs.NodeLaws.{columns_of, dense-columns, whole-spelled, are-spelled, first-node, behind, none-first}
 use Rattle.pbf_frame.proofs.OneValue.{same_whole}
 
 -- ---- the columns of nodes
 
--- what is known of columns that were read
-pub record AreRead (bytes : List ℕ) (columns : ColumnsLeft) : Type 0 where
+-- The bytes are DenseNodes of the nodes that the columns tell.
+pub record IsDense (bytes : List ℕ) (columns : ColumnsLeft) : Type 0 where
   pub whole : bytes ≡ dense_nodes (nodes_left columns)
   pub some : nodes_left columns ≢ []
   pub sound : AreFirstNodes 0 (nodes_left columns)
@@ -27,11 +27,11 @@ no_ids : (c : ColumnsLeft) (nodes : List StoredNode) → SpellsNodes c nodes →
 no_ids c [] s e = s.ids
 no_ids c (n ∷ ns) s e = absurd (omega (arith, ap length e))
 
-pub columns-found : (bytes ids lats lons parts : List ℕ) (columns : ColumnsLeft) → bytes ≡ column_fields ids lats lons parts → columns ≡ whole_columns ids lats lons parts → ids ≢ [] → AreNodes columns → AreRead bytes columns
+pub columns-found : (bytes ids lats lons parts : List ℕ) (columns : ColumnsLeft) → bytes ≡ column_fields ids lats lons parts → columns ≡ whole_columns ids lats lons parts → ids ≢ [] → AreNodes columns → IsDense bytes columns
 columns-found bytes ids lats lons parts columns e is some nodes =
     let w : ColumnsLeft = whole_columns ids lats lons parts in
     let spelled : AreNodes w = subst (λ (c : ColumnsLeft). AreNodes c) is nodes in
-    subst (λ (c : ColumnsLeft). AreRead bytes c) (sym is) (record {
+    subst (λ (c : ColumnsLeft). IsDense bytes c) (sym is) (record {
       whole = e ∙ spelled-columns ids lats lons parts (nodes_left w) spelled;
       some = λ none. some (no_ids w (nodes_left w) spelled none);
       sound = spelled.sound;
@@ -55,7 +55,7 @@ nodes-read nodes ids lats lons parts columns is same sound =
 
 pub table-apart : (key value : Text) → string_table key value ≡ (10 ∷ string []) ++ ((10 ∷ string key) ++ (10 ∷ string value))
 unfolding string_table
-table-apart key value = apart3 (10 ∷ string []) (10 ∷ string key) (10 ∷ string value)
+table-apart key value = append_assoc (10 ∷ string []) (10 ∷ string key) (10 ∷ string value)
 
 -- ---- the block
 

@@ -58,10 +58,7 @@ one_signed_field k a b x y e =
 pub one_last_signed : (k : ℕ) (a b : ℤ) → k ∷ vbe_unsigned (zigzag_of a) ≡ k ∷ vbe_unsigned (zigzag_of b) → a ≡ b
 one_last_signed k a b e = (one_signed_field k a b [] [] (append-nil (k ∷ vbe_unsigned (zigzag_of a)) ∙ e ∙ sym (append-nil (k ∷ vbe_unsigned (zigzag_of b))))).0
 
--- ---- parts side by side, the first apart
-
-pub apart3 : (a b c : List ℕ) → a ++ b ++ c ≡ a ++ (b ++ c)
-apart3 a b c = append_assoc a b c
+-- ---- four parts side by side, the first apart
 
 pub apart4 : (a b c d : List ℕ) → a ++ b ++ c ++ d ≡ a ++ (b ++ (c ++ d))
 apart4 a b c d = append_assoc (a ++ b) c d ∙ append_assoc a b (c ++ d)

@@ -169,17 +169,20 @@ difference-fits y z l m = fits_signed_from_abs w64 (z -ℤ y) (omega (arith, int
 number-fits : (z : ℤ) → nat_abs z ≤ 1800000000 → FitsSigned w64 z
 number-fits z l = fits_signed_from_abs w64 z (omega (arith, l))
 
--- The coordinates of the first node and their differences are sint64, and stand at the front of their columns.
-pub record NodeFits (c : ColumnsLeft) (n : StoredNode) (left : ColumnsLeft) : Type 0 where
+-- What each column begins with where the first node is read, as the code keeps the numbers before it.
+pub record FirstRead (c : ColumnsLeft) (n : StoredNode) (left : ColumnsLeft) : Type 0 where
   pub lat : FitsSigned w64 n.lat
   pub lon : FitsSigned w64 n.lon
   pub lat_more : FitsSigned w64 (n.lat -ℤ kept c.lat)
   pub lon_more : FitsSigned w64 (n.lon -ℤ kept c.lon)
+  pub rises : c.id < n.id
+  pub ids : c.ids ≡ vbe_unsigned (zigzag_of (pos n.id -ℤ pos c.id)) ++ left.ids
   pub lats : c.lats ≡ vbe_unsigned (zigzag_of (n.lat -ℤ kept c.lat)) ++ left.lats
   pub lons : c.lons ≡ vbe_unsigned (zigzag_of (n.lon -ℤ kept c.lon)) ++ left.lons
+  pub parts : c.parts ≡ tag_part n.tagged ++ left.parts
 
-pub node-fits : (c left : ColumnsLeft) (n : StoredNode) → IsStoredPlace c.lat c.lon → BeginWith c n left → NodeFits c n left
-node-fits c left n before b =
+front-read : (c left : ColumnsLeft) (n : StoredNode) → IsStoredPlace c.lat c.lon → BeginWith c n left → FirstRead c n left
+front-read c left n before b =
     let lat = near c.lat (lat-near c.lat c.lon before) in
     let lon = near c.lon (lon-near c.lat c.lon before) in
     let next_lat = near n.lat (lat-near n.lat n.lon b.place) in
@@ -191,12 +194,20 @@ node-fits c left n before b =
       lon = number-fits n.lon next_lon;
       lat_more = subst (λ (z : ℤ). FitsSigned w64 (n.lat -ℤ z)) (sym lat_is) (difference-fits c.lat n.lat lat next_lat);
       lon_more = subst (λ (z : ℤ). FitsSigned w64 (n.lon -ℤ z)) (sym lon_is) (difference-fits c.lon n.lon lon next_lon);
+      rises = b.rises;
+      ids = b.ids;
       lats = subst (λ (z : ℤ). c.lats ≡ vbe_unsigned (zigzag_of (n.lat -ℤ z)) ++ left.lats) (sym lat_is) b.lats;
       lons = subst (λ (z : ℤ). c.lons ≡ vbe_unsigned (zigzag_of (n.lon -ℤ z)) ++ left.lons) (sym lon_is) b.lons;
+      parts = b.parts;
     }
+
+-- the same where the columns are another name for these
+pub first-read : (own c left : ColumnsLeft) (n : StoredNode) → own ≡ c → IsStoredPlace c.lat c.lon → BeginWith c n left → FirstRead own n left
+first-read own c left n is before b = subst (λ (v : ColumnsLeft). FirstRead v n left) (sym is) (front-read c left n before b)
 
 -- ---- the end
 
+-- no column has anything left
 pub record AreRead (c : ColumnsLeft) : Type 0 where
   pub ids : c.ids ≡ []
   pub lats : c.lats ≡ []
@@ -222,12 +233,12 @@ abbrev pub Answers : ColumnsLeft → Option (StoredNode × ColumnsLeft) → Type
 Answers c answer = (n : StoredNode) → (left : ColumnsLeft) → BeginWith c n left → answer ≡ Some (n, left)
 
 -- there is no node where none is answered
-no_nodes : (c : ColumnsLeft) (ns : List StoredNode) → Answers c None → SpellsNodes c ns → ns ≡ []
-no_nodes c [] only s = refl
-no_nodes c (n ∷ ns) only s = absurd (none-some (n, behind n ns) (only n (behind n ns) (first-node c n ns s)))
+none-of : (c : ColumnsLeft) (ns : List StoredNode) → Answers c None → SpellsNodes c ns → ns ≡ []
+none-of c [] only s = refl
+none-of c (n ∷ ns) only s = absurd (none-some (n, behind n ns) (only n (behind n ns) (first-node c n ns s)))
 
 pub no-nodes : (c : ColumnsLeft) → Answers c None → AreNodes c → nodes_left c ≡ []
-no-nodes c only s = no_nodes c (nodes_left c) only s
+no-nodes c only s = none-of c (nodes_left c) only s
 
 pub all-read : (c : ColumnsLeft) → Answers c None → AreNodes c → AreRead c
 all-read c only s = none-read c (subst (λ (ns : List StoredNode). SpellsNodes c ns) (no-nodes c only s) s)

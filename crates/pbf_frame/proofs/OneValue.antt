@@ -1,14 +1,14 @@
 -- The bytes of an input tell its value.
 use Rattle.std.proofs.Common.{◌≡◌, ℕ, List, [], ◌∷◌, ◌++◌, refl, sym, ap, ◌∙◌, Option, Some, None}
 use Rattle.std.specs.Prelude.{ℤ, codes, MatchOption, ⊤}
-use Rattle.std.proofs.lemmas.List.{append-nil}
+use Rattle.std.proofs.lemmas.List.{append_assoc, append-nil}
 use Rattle.mf_base.specs.Spelling.{vbe_unsigned, zigzag_of, string}
 use Rattle.mf_base.specs.Texts.{Text}
 use Rattle.pbf_frame.specs.declared.stored.StoredNode.{StoredNode}
 use Rattle.pbf_frame.specs.declared.stored.Sides.{Sides}
 use Rattle.pbf_frame.specs.FirstForm.{FirstData, FirstValue, IsFirstData, IsFirstForm, AreFirstNodes, blob, bbox, header_block, string_table, dense_nodes, primitive_block, data_blob, first_bytes}
 use Rattle.pbf_frame.specs.Columns.{ColumnsLeft, whole_columns, column_fields, nodes_left}
-use Rattle.pbf_frame.proofs.Fronts.{one_field, one_last_field, one_signed_field, one_last_signed, one_blob, some_blob, apart3, apart4}
+use Rattle.pbf_frame.proofs.Fronts.{one_field, one_last_field, one_signed_field, one_last_signed, one_blob, some_blob, apart4}
 use Rattle.pbf_frame.proofs.NodeLaws.{columns_of, nodes-are, dense-columns, whole-spelled}
 
 -- ---- the sides
@@ -34,7 +34,7 @@ unfolding header_block
 one_header s t e =
     let schema : List ℕ = 34 ∷ string (codes "OsmSchema-V0.6") in
     let dense : List ℕ = 34 ∷ string (codes "DenseNodes") in
-    one_bbox s t (one_field 10 (bbox s) (bbox t) (schema ++ dense) (schema ++ dense) (sym (apart3 (10 ∷ string (bbox s)) schema dense) ∙ e ∙ apart3 (10 ∷ string (bbox t)) schema dense)).0
+    one_bbox s t (one_field 10 (bbox s) (bbox t) (schema ++ dense) (schema ++ dense) (sym (append_assoc (10 ∷ string (bbox s)) schema dense) ∙ e ∙ append_assoc (10 ∷ string (bbox t)) schema dense)).0
 
 -- ---- the data
 
@@ -42,7 +42,7 @@ pub one_table : (key value first second : Text) → string_table key value ≡ s
 unfolding string_table
 one_table key value first second e =
     let empty : List ℕ = 10 ∷ string [] in
-    let keys = one_field 10 [] [] ((10 ∷ string key) ++ (10 ∷ string value)) ((10 ∷ string first) ++ (10 ∷ string second)) (sym (apart3 empty (10 ∷ string key) (10 ∷ string value)) ∙ e ∙ apart3 empty (10 ∷ string first) (10 ∷ string second)) in
+    let keys = one_field 10 [] [] ((10 ∷ string key) ++ (10 ∷ string value)) ((10 ∷ string first) ++ (10 ∷ string second)) (sym (append_assoc empty (10 ∷ string key) (10 ∷ string value)) ∙ e ∙ append_assoc empty (10 ∷ string first) (10 ∷ string second)) in
     let values = one_field 10 key first (10 ∷ string value) (10 ∷ string second) keys.1 in
     (values.0, one_last_field 10 value second values.1)
 
