@@ -8,3 +8,12 @@ pub mod Fronts
 pub mod NodeLaws
 pub mod OneValue
 pub mod DataLaws
+pub mod FirstFields
+pub mod FirstBlob
+pub mod FirstHeader
+pub mod FirstColumns
+pub mod FirstTags
+pub mod FirstBlock
+pub mod FirstDense
+pub mod FirstOrder
+pub mod FirstInput

@@ -1,3 +1,4 @@
 pub mod FirstForm
 pub mod Columns
+pub mod FirstEntities
 pub mod Samples

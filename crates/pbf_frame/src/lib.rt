@@ -1,6 +1,6 @@
 //! Reads an input of the first form: one header blob with a box, and at most one data blob of dense nodes with one tag, each message in its one shortest spelling.
 //!
-//! What such an input is stands in `specs/FirstForm`. The reader is `first_form`; what it reads is `stored`, and it gives nodes as `first_node`, by `first_nodes`. It goes down through `blobs`, `header`, `dense` and `columns` by the steps in `parts`. That a value is read in just one way stands in `laws`, and worked inputs in `rows`.
+//! What such an input is stands in `specs/FirstForm`. The reader is `first_form`; what it reads is `stored`, and it gives nodes as `first_node`, by `first_nodes`. It goes down through `blobs`, `header`, `dense` and `columns` by the steps in `parts`. `laws` says that a value is read in just one way, and that such an input is one that any extract may be, with the objects that its nodes are (`specs/FirstEntities`). Worked inputs stand in `rows`.
 #![tactic(auto)]
 
 pub mod blobs;

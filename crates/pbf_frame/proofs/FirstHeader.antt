@@ -1,0 +1,109 @@
+-- A HeaderBlock of the first form has the box of its sides, and no fault.
+use Rattle.std.proofs.Common.{◌≡◌, ℕ, ◌<◌, ◌≤◌, ◌^◌, List, [], ◌∷◌, ◌++◌, length, refl, arith, true, Ok, Some}
+use Rattle.std.specs.Prelude.{codes, ℤ, pos, negsuc, nat_abs}
+use Rattle.std.proofs.lemmas.Bool.{and_parts, leb-true}
+use Rattle.mf_base.specs.declared.place.Rect.{Rect}
+use Rattle.mf_base.specs.Spelling.{zigzag_of}
+use Rattle.mf_base.proofs.NumberLemmas.{zigzag-there}
+use Rattle.osm_model.specs.Wire.{Field}
+use Rattle.osm_model.specs.Tables.{FitsTable, fields_fault, message, header_bbox, header_block as header_table}
+use Rattle.osm_model.specs.Blocks.{is_within, latitude_limit, longitude_limit, micro, box_in, header_box}
+use Rattle.osm_model.proofs.TableLaws.{none_fits}
+use Rattle.osm_model.proofs.TableMessageLaws.{message_is}
+use Rattle.pbf_frame.specs.declared.stored.Sides.{Sides}
+use Rattle.pbf_frame.specs.FirstForm.{AreSides, first_limit, signed_field, bytes_field, bbox, header_block}
+use Rattle.pbf_frame.proofs.FirstFields.{number_at, bytes_at, spells-number, spells-bytes, one-field, message-with, field-longer, front-shorter}
+
+-- a sint64 of a magnitude below 2^63 is told by a number below 2^64
+pub zigzag-fits : (z : ℤ) → nat_abs z < 2 ^ 63 → zigzag_of z < 2 ^ 64
+zigzag-fits (pos m) small = omega (arith, small)
+zigzag-fits (negsuc m) small = omega (arith, small)
+
+near-fits : (limit : ℕ) (z : ℤ) → limit < 2 ^ 63 → is_within limit z ≡ true → zigzag_of z < 2 ^ 64
+near-fits limit z small near = let le = leb-true (nat_abs z) limit near in zigzag-fits z (omega (arith, le, small))
+
+-- ---- the bbox
+
+-- each side can be told as a sint64
+record SidesTold (s : Sides) : Type 0 where
+  left : zigzag_of s.left < 2 ^ 64
+  right : zigzag_of s.right < 2 ^ 64
+  top : zigzag_of s.top < 2 ^ 64
+  bottom : zigzag_of s.bottom < 2 ^ 64
+
+sides-told : (s : Sides) → AreSides s → SidesTold s
+sides-told s are =
+    let first_five = (and_parts _ _ are).0 in
+    let on_earth = (and_parts _ _ first_five).0 in
+    let (first_three, bottom) = and_parts _ _ on_earth in
+    let (first_two, top) = and_parts _ _ first_three in
+    let (left, right) = and_parts _ _ first_two in
+    record {
+      left = near-fits longitude_limit s.left (omega arith) left;
+      right = near-fits longitude_limit s.right (omega arith) right;
+      top = near-fits latitude_limit s.top (omega arith) top;
+      bottom = near-fits latitude_limit s.bottom (omega arith) bottom;
+    }
+
+-- the fields of a bbox
+abbrev sides_at : Sides → List Field
+sides_at s = number_at 1 (zigzag_of s.left) ∷ number_at 2 (zigzag_of s.right) ∷ number_at 3 (zigzag_of s.top) ∷ number_at 4 (zigzag_of s.bottom) ∷ []
+
+bbox-fits : (s : Sides) → FitsTable header_bbox (sides_at s)
+unfolding fields_fault
+bbox-fits s = none_fits header_bbox (sides_at s) refl
+
+bbox-message : (s : Sides) → SidesTold s → message header_bbox (bbox s) ≡ Ok (sides_at s)
+unfolding bbox
+bbox-message s fit =
+    let left = number_at 1 (zigzag_of s.left) in
+    let right = number_at 2 (zigzag_of s.right) in
+    let top = number_at 3 (zigzag_of s.top) in
+    let bottom = number_at 4 (zigzag_of s.bottom) in
+    let one = one-field left (signed_field 1 s.left) (spells-number 1 _ (omega arith) (omega arith) fit.left) in
+    let two = message-with (signed_field 1 s.left) (signed_field 2 s.right) (left ∷ []) right one (spells-number 2 _ (omega arith) (omega arith) fit.right) in
+    let three = message-with (signed_field 1 s.left ++ signed_field 2 s.right) (signed_field 3 s.top) (left ∷ right ∷ []) top two (spells-number 3 _ (omega arith) (omega arith) fit.top) in
+    let four = message-with (signed_field 1 s.left ++ signed_field 2 s.right ++ signed_field 3 s.top) (signed_field 4 s.bottom) (left ∷ right ∷ top ∷ []) bottom three (spells-number 4 _ (omega arith) (omega arith) fit.bottom) in
+    message_is header_bbox (signed_field 1 s.left ++ signed_field 2 s.right ++ signed_field 3 s.top ++ signed_field 4 s.bottom) (sides_at s) four (bbox-fits s)
+
+-- the box of sides, in microdegrees
+abbrev pub box_told : Sides → Rect
+box_told s = record { min_lat = micro s.bottom; min_lon = micro s.left; max_lat = micro s.top; max_lon = micro s.right }
+
+box-is : (s : Sides) → AreSides s → box_in (bbox s) ≡ Ok (box_told s)
+unfolding box_in
+box-is s are =
+    rw (bbox-message s (sides-told s are)) (rw (zigzag-there s.left, zigzag-there s.right, zigzag-there s.top, zigzag-there s.bottom) (rw are refl))
+
+-- ---- the HeaderBlock
+
+-- the fields of a HeaderBlock
+abbrev blocks_at : Sides → List Field
+blocks_at s = bytes_at 1 (bbox s) ∷ bytes_at 4 (codes "OsmSchema-V0.6") ∷ bytes_at 4 (codes "DenseNodes") ∷ []
+
+block-fits : (s : Sides) → FitsTable header_table (blocks_at s)
+unfolding fields_fault
+block-fits s = none_fits header_table (blocks_at s) refl
+
+-- the bbox is shorter than its HeaderBlock
+bbox-shorter : (s : Sides) → length (bbox s) < length (header_block s)
+unfolding header_block
+bbox-shorter s =
+    let schema = bytes_field 4 (codes "OsmSchema-V0.6") in
+    let dense = bytes_field 4 (codes "DenseNodes") in
+    omega (arith, field-longer 1 (bbox s), front-shorter (bytes_field 1 (bbox s)) schema, front-shorter (bytes_field 1 (bbox s) ++ schema) dense)
+
+block-message : (s : Sides) → length (bbox s) < 2 ^ 64 → message header_table (header_block s) ≡ Ok (blocks_at s)
+unfolding header_block
+block-message s short =
+    let schema = codes "OsmSchema-V0.6" in
+    let dense = codes "DenseNodes" in
+    let one = one-field (bytes_at 1 (bbox s)) (bytes_field 1 (bbox s)) (spells-bytes 1 (bbox s) (omega arith) (omega arith) short) in
+    let two = message-with (bytes_field 1 (bbox s)) (bytes_field 4 schema) (bytes_at 1 (bbox s) ∷ []) (bytes_at 4 schema) one (spells-bytes 4 schema (omega arith) (omega arith) (omega arith)) in
+    let three = message-with (bytes_field 1 (bbox s) ++ bytes_field 4 schema) (bytes_field 4 dense) (bytes_at 1 (bbox s) ∷ bytes_at 4 schema ∷ []) (bytes_at 4 dense) two (spells-bytes 4 dense (omega arith) (omega arith) (omega arith)) in
+    message_is header_table (bytes_field 1 (bbox s) ++ bytes_field 4 schema ++ bytes_field 4 dense) (blocks_at s) three (block-fits s)
+
+pub header-box : (s : Sides) → AreSides s → length (header_block s) ≤ first_limit → header_box (header_block s) ≡ Ok (Some (box_told s))
+unfolding header_box
+header-box s are short =
+    rw (block-message s (omega (arith, bbox-shorter s, short))) (rw (box-is s are) refl)
