@@ -9,3 +9,6 @@ pub mod Compute
 pub mod Roots
 pub mod WordLaws
 pub mod BigBytes
+pub mod ByteLaws
+pub mod ListLaws
+pub mod SignLaws

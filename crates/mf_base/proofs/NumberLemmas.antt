@@ -2,9 +2,10 @@
 use Rattle.std.proofs.Common.{◌≡◌, ◌⊎◌, ℕ, zero, suc, ◌+◌, ◌*◌, ◌/◌, ◌%◌, ◌^◌, ◌<◌, ◌≤◌, true, List, [], ◌∷◌, ◌++◌, length, take, refl, sym, ap, subst, ◌∙◌, arith, inl, inr, Ok}
 use Rattle.std.specs.Prelude.{nat_lt, nat_le, ◌||◌, ◌==◌, ℤ, pos, negsuc, nat_abs}
 use Rattle.std.proofs.lemmas.Bool.{cases_lt, lt-ltb, le-leb, ltb-true, leb-true, and_from, and_parts, or_left, or_right, or_cases, eq-eqb, ne_eqb, cases_eq}
-use Rattle.std.proofs.lemmas.List.{length-append, get_or-take, get_or_past, length-take}
+use Rattle.std.proofs.lemmas.List.{length-append}
 use Rattle.mf_base.specs.Spelling.{IsBytes, IsVbe, IsVbeUnsigned, IsVbeSigned, IsVarint, vbe, vbe_unsigned, vbe_signed, zigzag_of, unzigzag_of, high_run, sevens, first_run}
 use Rattle.mf_base.specs.NumberReading.{has_end, is_narrow, run_size, varint_front, run_magnitude, run_sign, vbe_front, unsigned_front, with_sign, signed_front}
+use Rattle.mf_base.proofs.ByteLaws.{take-bytes}
 use Rattle.mf_base.proofs.StepLaws.{bind_ok, require_ok, ok_is}
 use Rattle.mf_base.proofs.OneSpelling.{vbe-only, vbe-is, vbe-small, vbe-more, length-vbe_unsigned-63, length-vbe_signed-63}
 use Rattle.mf_base.proofs.Runs.{high_run-low, high_run-high, high_run-append, first_run-append, length-first_run, high_run-first_run}
@@ -183,14 +184,6 @@ run-signed last (b ∷ c ∷ d) width one = elim (cases_lt b 128) [
   | inl low ↦ absurd (omega (arith, high_run-low b (c ∷ d) low, one))
   | inr high ↦ run-signed last (c ∷ d) width (omega (arith, high_run-high b (c ∷ d) high, one))
 ]
-
--- what is taken of bytes is bytes
-take-bytes : (k : ℕ) (bytes : List ℕ) → IsBytes bytes → IsBytes (take k bytes)
-take-bytes k bytes small i =
-    elim (cases_lt i k) [
-      | inl lt ↦ rw (get_or-take k bytes i 0 lt) (small i)
-      | inr le ↦ rw (get_or_past (take k bytes) i 0 (omega (arith, length-take k bytes))) (omega arith)
-    ]
 
 -- what a number that was found is
 record IsVbeFront (last : ℕ) (bytes : List ℕ) (sign m size : ℕ) : Type 0 where

@@ -1,5 +1,6 @@
 -- What steps in order tell of their parts.
-use Rattle.std.proofs.Common.{◌≡◌, refl, Bool, true, false, Option, Some, None, Result, Ok, Err, ok_or, cond, ◌⊎◌, inl, inr}
+use Rattle.std.proofs.Common.{◌≡◌, refl, Bool, true, false, Option, Some, None, Result, Ok, Err, ok_or, option_map, sym, cond, ◌⊎◌, inl, inr}
+use Rattle.std.proofs.lemmas.Option.{none-some}
 use Rattle.mf_base.specs.Steps.{◌>>=◌, require, refuse, told_as}
 
 pub err_is_no_ok : {A F : Type 0} (f : F) (x : A) → ◌≡◌ {A = Result A F} (Err f) (Ok x) → ⊥
@@ -24,6 +25,11 @@ told_ok tell (Err f) x e = absurd (err_is_no_ok (tell f) x e)
 pub ok_or_ok : {A F : Type 0} (o : Option A) (f : F) (x : A) → ok_or o f ≡ Ok x → o ≡ Some x
 ok_or_ok None f x e = absurd (err_is_no_ok f x e)
 ok_or_ok (Some y) f x e = cc
+
+-- nothing was mapped
+pub map_none : {A B : Type 0} (f : A → B) (o : Option A) → option_map f o ≡ None → o ≡ None
+map_none f None e = refl
+map_none f (Some x) e = absurd (none-some (f x) (sym e))
 
 -- which way a choice went
 pub chosen : {A : Type 0} (b : Bool) (x y z : A) → cond b x y ≡ z → ((b ≡ true) × (x ≡ z)) ⊎ ((b ≡ false) × (y ≡ z))

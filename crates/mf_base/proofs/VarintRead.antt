@@ -3,7 +3,7 @@ use Rattle.std.proofs.Common.{◌≡◌, ◌⊎◌, ℕ, zero, suc, ◌+◌, ◌
 use Rattle.std.specs.Prelude.{nat_lt, nat_le, slice_range}
 use Rattle.std.proofs.lemmas.Bool.{cases_lt, lt-ltb, le-ltb, le-leb, lt-leb, and_left, and_right, or_left, or_right}
 use Rattle.std.proofs.lemmas.Nat.{mul-le}
-use Rattle.std.proofs.lemmas.List.{length-take, length-drop, length-append, take_all, nil_from_length}
+use Rattle.std.proofs.lemmas.List.{length-take, length-drop, length-append, take_rest, nil_from_length}
 use Rattle.std.proofs.Math.Nat.{pow-suc, pow-le-pow_right}
 use Rattle.mf_base.specs.declared.number.VarintFault.{VarintFault}
 use Rattle.mf_base.specs.declared.number.VarintFault.TheVariants.{Short, Long}
@@ -177,19 +177,16 @@ scale-more bytes run scale value r few = let weight = scale-le bytes run scale v
 
 -- ---- a varint at a place
 
-whole_rest : (bytes : List ℕ) (at : ℕ) → take (length bytes - at) (drop at bytes) ≡ drop at bytes
-whole_rest bytes at = take_all (length bytes - at) (drop at bytes) (omega (arith, length-drop at bytes))
-
 pub found-at : (bytes : List ℕ) (at n size : ℕ) (read : Result (ℕ × ℕ) VarintFault) → at < length bytes → read ≡ varint_front (take (length bytes - at) (drop at bytes)) → read ≡ Ok (n, size)
     → (at < at + size) × (at + size ≤ length bytes) × IsVarint n (slice_range bytes at (at + size))
 found-at bytes at n size read within is ok =
-    let front : varint_front (drop at bytes) ≡ Ok (n, size) = sym (ap varint_front (whole_rest bytes at)) ∙ sym is ∙ ok in
+    let front : varint_front (drop at bytes) ≡ Ok (n, size) = sym (ap varint_front (take_rest bytes at)) ∙ sym is ∙ ok in
     let found = varint_found (drop at bytes) n size front in
     let same : at + size - at ≡ size = omega arith in
     (omega (arith, found.some), omega (arith, found.within, length-drop at bytes, within), rw same found.spelled)
 
 pub only-at : (bytes : List ℕ) (at : ℕ) (read : Result (ℕ × ℕ) VarintFault) → read ≡ varint_front (take (length bytes - at) (drop at bytes)) → (n : ℕ) (b rest : List ℕ) → IsVarint n b → drop at bytes ≡ b ++ rest → read ≡ Ok (n, length b)
-only-at bytes at read is n b rest v whole = is ∙ ap varint_front (whole_rest bytes at ∙ whole) ∙ varint_reads n b rest v
+only-at bytes at read is n b rest v whole = is ∙ ap varint_front (take_rest bytes at ∙ whole) ∙ varint_reads n b rest v
 
 pub none-at_end : (bytes : List ℕ) (at : ℕ) → length bytes ≤ at → (n : ℕ) (b rest : List ℕ) → IsVarint n b → drop at bytes ≡ b ++ rest → ⊥
 none-at_end bytes at past n b rest v whole = omega (arith, v.run, length-append b rest, ap length whole, length-drop at bytes, past)

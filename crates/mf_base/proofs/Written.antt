@@ -30,8 +30,9 @@ pub put-last : (now next first : Buffer) (last sign rest m : ℕ) → rest < las
 unfolding Completes
 put-last now next first last sign rest m small h put = rw (put, ← vbe-small last sign rest small, h.0, h.1) refl
 
-pub puts-at_most : (first next : Buffer) (bytes : List ℕ) → AppendsTo first next bytes → length bytes ≤ 10 → length next.bytes ≤ length first.bytes + 10
-puts-at_most first next bytes put short = rw put (omega (arith, length-append first.bytes bytes, short))
+-- at most so many bytes were put
+pub puts-most : (first next : Buffer) (bytes : List ℕ) (n : ℕ) → AppendsTo first next bytes → length bytes ≤ n → length next.bytes ≤ length first.bytes + n
+puts-most first next bytes n put short = rw put (omega (arith, length-append first.bytes bytes, short))
 
 pub size-more : (last rest size all : ℕ) → 0 < last → last ≤ rest → size + length (vbe last 0 rest) ≡ all → size + 1 + length (vbe last 0 (rest / 128)) ≡ all
 size-more last rest size all some large h = let e = ap length (vbe-more last 0 rest some large) in omega (arith, h, e)

@@ -15,17 +15,19 @@ within least greatest z = if lies_within least greatest z then Some z else None
 abbrev pub within_numbers : ℕ → ℕ → ℕ → Option ℕ
 within_numbers least greatest n = if nat_le least n && nat_le n greatest then Some n else None
 
--- a number of signed 32 bits, and one of signed 64 bits
+-- a number of signed 32 bits
 abbrev pub is_signed_32 : ℤ → Bool
 is_signed_32 z = lies_within (negsuc (2 ^ 31 - 1)) (pos (2 ^ 31 - 1)) z
 
+-- a number of signed 64 bits
 abbrev pub is_signed_64 : ℤ → Bool
 is_signed_64 z = lies_within (negsuc (2 ^ 63 - 1)) (pos (2 ^ 63 - 1)) z
 
--- a latitude, from -90 to 90 degrees, and a longitude, from -180 to 180 degrees
+-- a latitude, from -90 to 90 degrees
 abbrev pub is_latitude : ℤ → Bool
 is_latitude z = lies_within (negsuc 89999999) (pos 90000000) z
 
+-- a longitude, from -180 to 180 degrees
 abbrev pub is_longitude : ℤ → Bool
 is_longitude z = lies_within (negsuc 179999999) (pos 180000000) z
 

@@ -1,8 +1,8 @@
 -- Steps in order, each with an answer or a fault, up to the first fault. What is read, checked or refused in an order is said with these words.
 use Rattle.std.specs.Prelude.{Bool, true, false, List, [], ◌∷◌, Option, Some, None, Result, Ok, Err}
 
--- one step and then the next, which may use its answer; the first that fails tells the fault
 infixl 10 ◌>>=◌
+-- one step and then the next, which may use its answer; the first that fails tells the fault
 abbrev pub ◌>>=◌ : {A B F : Type 0} → Result A F → (A → Result B F) → Result B F
 (Ok x) >>= next = next x
 (Err fault) >>= next = Err fault

@@ -14,7 +14,7 @@ pub fn put_be(out: &mut OutBuf, v: u64, width: u8)
     requires fits { v < 256 ^ width }
     requires room { HasRoom out.old width }
     ensures appends { AppendsTo out.old out.new (big_endian width v) }
-    ensures most { length out.new.bytes ≤ length out.old.bytes + 10 }
+    ensures most { length out.new.bytes ≤ length out.old.bytes + width }
 {
     let width = usize::from(width);
     let mut bytes = [0; 8];

@@ -1,6 +1,6 @@
 //! Bytes that are written into a fixed room.
 
-ghost use Rattle.std.specs.Prelude.{◌≡◌, ◌+◌, ◌≤◌, [], length, IfOk};
+ghost use Rattle.std.specs.Prelude.{◌≡◌, ◌+◌, ◌≤◌, ◌<◌, ◌^◌, [], length, IfOk};
 ghost use Rattle.mf_base.specs.Buffer.{HasRoom, AppendsTo};
 
 use std::alloc::{AllocError, Global};
@@ -37,7 +37,8 @@ impl OutBuf {
 
     /// How many more bytes can be put.
     pub fn spare(&self) -> usize
-        ensures { result + length self.now.bytes ≡ self.now.capacity }
+        ensures left { result + length self.now.bytes ≡ self.now.capacity }
+        ensures bounded { self.now.capacity < 2 ^ 63 }
     {
         self.limit - self.written.len()
     }

@@ -1,5 +1,5 @@
 use Rattle.std.proofs.Common.{arith, refl}
-use Rattle.mf_base.proofs.Written.{Completes, room-left, put-more, put-last, puts-at_most}
+use Rattle.mf_base.proofs.Written.{Completes, room-left, put-more, put-last, puts-most}
 use Rattle.mf_base.proofs.vbe.put_groups.Goals as goal
 
 pub loop-rest-init : goal.loop-rest-init
@@ -19,4 +19,4 @@ pub returns-clause-appends : goal.returns-clause-appends
 returns-clause-appends c = put-last _ _ _ _ _ _ _ (omega (arith, c.from.ensures, c.loop-rest-test.false)) c.loop-rest.invariant c.put-2.ensures
 
 pub returns-clause-most : goal.returns-clause-most
-returns-clause-most c = puts-at_most _ _ _ (put-last _ _ _ _ _ _ _ (omega (arith, c.from.ensures, c.loop-rest-test.false)) c.loop-rest.invariant c.put-2.ensures) c.requires.short
+returns-clause-most c = puts-most _ _ _ 10 (put-last _ _ _ _ _ _ _ (omega (arith, c.from.ensures, c.loop-rest-test.false)) c.loop-rest.invariant c.put-2.ensures) c.requires.short
