@@ -1,8 +1,8 @@
 -- The front of bytes is a field exactly where it is spelled so.
 use Rattle.std.proofs.Common.{◌≡◌, ◌==◌, ◌&&◌, ℕ, ◌+◌, ◌*◌, ◌/◌, ◌%◌, ◌<◌, ◌≤◌, ◌^◌, List, ◌++◌, length, take, drop, refl, sym, ap, subst, ◌∙◌, arith, inl, inr, true, Ok, nat_lt, nat_le}
 use Rattle.std.proofs.lemmas.Bool.{lt-ltb, le-leb, leb-true, eqb-true, ltb-true, and_parts}
-use Rattle.std.proofs.lemmas.List.{take_at, drop_at, length-drop, length-append, append_assoc, length-take-le, take-append-drop}
-use Rattle.std.proofs.Math.Seq.{take-append-add}
+use Rattle.std.proofs.lemmas.List.{take_at, drop_at, length-drop, length-append, append_assoc, length-take-le}
+use Rattle.std.proofs.Math.Seq.{take-add}
 use Rattle.mf_base.specs.Spelling.{IsVarint}
 use Rattle.mf_base.specs.Steps.{◌>>=◌, told_as}
 use Rattle.mf_base.specs.NumberReading.{varint_front}
@@ -40,7 +40,7 @@ wire_type-lt (i64 bytes) = omega arith
 wire_type-lt (len bytes) = omega arith
 wire_type-lt (i32 bytes) = omega arith
 
-is_number : (n : ℕ) → 1 ≤ n → n < 2 ^ 29 → (nat_le 1 n && nat_lt n (2 ^ 29)) ≡ true
+pub is_number : (n : ℕ) → 1 ≤ n → n < 2 ^ 29 → (nat_le 1 n && nat_lt n (2 ^ 29)) ≡ true
 is_number n least most = rw (le-leb 1 n least, lt-ltb n (2 ^ 29) most) refl
 
 front_number : (f : Field) → key_of f / 8 ≡ f.number
@@ -84,12 +84,6 @@ bytes_found kind count at bytes v size e =
     let pair = ok_is _ _ rest in
     (leb-true (at + count) (length bytes) (require_ok _ _ u tested), ap (λ p. p.0) pair, ap (λ p. p.1) pair)
 
-pub split_take : (m n : ℕ) (l : List ℕ) → m + n ≤ length l → take (m + n) l ≡ take m l ++ take n (drop m l)
-split_take m n l fits =
-    let front : length (take m l) ≡ m = length-take-le m l (omega (arith, fits)) in
-    let e : take (length (take m l) + n) (take m l ++ drop m l) ≡ take m l ++ take n (drop m l) = take-append-add (take m l) (drop m l) n in
-    ap (λ x. take (m + n) x) (sym (take-append-drop m l)) ∙ ap (λ k. take (k + n) (take m l ++ drop m l)) (sym front) ∙ e
-
 varint_value_found : (type : ℕ) (bytes : List ℕ) (v : Value) (size : ℕ) → 0 ≡ type → varint_value bytes ≡ Ok (v, size) → IsValueFront type v size bytes
 varint_value_found type bytes v size typed e =
     let (n, number, rest) = bind_ok _ _ _ e in
@@ -117,7 +111,7 @@ len_value_found type bytes v size typed e =
     let held : length (take n.0 (drop n.1 bytes)) ≡ n.0 = length-take-le n.0 (drop n.1 bytes) (omega (arith, fits, length-drop n.1 bytes)) in
     let spelled : IsVarint (length (take n.0 (drop n.1 bytes))) (take n.1 bytes) = subst (λ k. IsVarint k (take n.1 bytes)) (sym held) front.spelled in
     subst (λ w. IsValueFront type w size bytes) value (subst (λ k. IsValueFront type (len (take n.0 (drop n.1 bytes))) k bytes) count
-    (record { typed = typed; within = fits; spelled = (take n.1 bytes, spelled, split_take n.1 n.0 bytes fits) }))
+    (record { typed = typed; within = fits; spelled = (take n.1 bytes, spelled, take-add n.1 n.0 bytes) }))
 
 value_found : (type : ℕ) (bytes : List ℕ) (v : Value) (size : ℕ) → value_front type bytes ≡ Ok (v, size) → IsValueFront type v size bytes
 value_found type bytes v size e =
@@ -158,6 +152,6 @@ field_found bytes f size e =
     let found : IsFieldFront (record { number = key.0 / 8; value = value.0 }) (key.1 + value.1) bytes = record {
       some = positive_sum key.1 value.1 front.some;
       within = fits;
-      spelled = record { least = leb-true _ _ range.0; most = ltb-true _ _ range.1; spelled = (take key.1 bytes, take value.1 (drop key.1 bytes), keyed, held.spelled, split_take key.1 value.1 bytes fits) };
+      spelled = record { least = leb-true _ _ range.0; most = ltb-true _ _ range.1; spelled = (take key.1 bytes, take value.1 (drop key.1 bytes), keyed, held.spelled, take-add key.1 value.1 bytes) };
     } in
     subst (λ g. IsFieldFront g size bytes) (ap (λ p. p.0) pair) (subst (λ k. IsFieldFront (record { number = key.0 / 8; value = value.0 }) k bytes) (ap (λ p. p.1) pair) found)

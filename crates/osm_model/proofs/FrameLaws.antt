@@ -1,21 +1,22 @@
 -- The front of bytes is a blob exactly where it is spelled so.
 use Rattle.std.proofs.Common.{◌≡◌, ◌≢◌, ◌==◌, ℕ, ◌+◌, ◌<◌, ◌≤◌, List, [], ◌++◌, length, take, drop, refl, sym, ap, subst, ◌∙◌, arith, inl, inr, false, cond, Ok, Option, Some, None, codes, MatchOption, append-nil}
-use Rattle.std.specs.Prelude.{option_map, bytes_eq}
-use Rattle.std.proofs.lemmas.Bool.{cases_lt, lt-ltb, le-leb, leb-true, ltb-true, eqb-true, eq-eqb, cases_Bool}
-use Rattle.std.proofs.lemmas.List.{take_at, drop_at, length-take, length-drop, length-append, append_assoc, length-take-le, take-take, get_or-take, get_or_past}
+use Rattle.std.specs.Prelude.{bytes_eq}
+use Rattle.std.proofs.lemmas.Bool.{lt-ltb, le-leb, leb-true, ltb-true, eqb-true, eq-eqb, cases_Bool, both_ways}
+use Rattle.std.proofs.lemmas.List.{take_at, drop_at, length-drop, length-append, append_assoc, length-take-le, take-take}
 use Rattle.std.specs.Cmp.Lexicographic.{bytes_decides}
+use Rattle.std.proofs.Math.Seq.{take-add}
 use Rattle.byteorder.specs.Endian.{big_number, big_bytes}
-use Rattle.byteorder.specs.Numbers.{big_number-reads_back, length-bytes_high_first}
+use Rattle.byteorder.specs.Numbers.{big_number-reads_back}
 use Rattle.mf_base.specs.Spelling.{big_endian, IsBytes}
 use Rattle.mf_base.specs.Steps.{◌>>=◌}
-use Rattle.mf_base.proofs.StepLaws.{chosen, ok_is, bind_ok, require_ok, told_ok, ok_or_ok, refuse_ok}
+use Rattle.mf_base.proofs.StepLaws.{chosen, ok_is, bind_ok, require_ok, told_ok, ok_or_ok, refuse_ok, map_none}
+use Rattle.mf_base.proofs.ByteLaws.{take-bytes, length-big_endian}
 use Rattle.mf_base.proofs.BigBytes.{big_bytes-big_number}
 use Rattle.osm_model.specs.Wire.{Field, IsMessage}
 use Rattle.osm_model.specs.Tables.{FitsTable, message, blob_header, blob, once_of, number_of}
 use Rattle.osm_model.specs.Frames.{Content, header, primitive, unread, type_of, header_limit, blob_limit, offset_limit, IsBlobHeader, IsBlob, HoldsContent, SpellsFrame, header_wire, blob_wire, no_type, no_size, compressed, no_data, raw_size, whole_part, raw_size_fault, raw_bytes, content_in, frame_front}
-use Rattle.osm_model.proofs.FieldLaws.{split_take}
 use Rattle.osm_model.proofs.TableMessageLaws.{message_is, message_found}
-use Rattle.osm_model.proofs.TableLaws.{some_no_none, true_no_false}
+use Rattle.osm_model.proofs.TableLaws.{some_no_none}
 
 -- ---- the Blob
 
@@ -36,10 +37,6 @@ unfolding raw_bytes
 raw_is raw b h =
     rw (message_is blob b h.parts h.spelled h.fits) (rw h.plain (rw h.held (rw (size_none (number_of 2 h.parts) (length raw) h.told) refl)))
 
-no_map : {A B : Type 0} (f : A → B) (o : Option A) → option_map f o ≡ None → o ≡ None
-no_map f None e = refl
-no_map f (Some x) e = absurd (some_no_none (f x) e)
-
 pub raw_found : (raw b : List ℕ) → raw_bytes b ≡ Ok raw → IsBlob raw b
 unfolding raw_bytes
 raw_found raw b e =
@@ -49,7 +46,7 @@ raw_found raw b e =
     let (v, told, last) = bind_ok _ _ _ behind_held in
     let same = ok_is _ _ last in
     let is = message_found blob b parts (told_ok blob_wire (message blob b) parts read) in
-    let found_is : IsBlob found b = record { parts = parts; spelled = is.0; fits = is.1; plain = no_map compressed _ (refuse_ok _ u plain); held = ok_or_ok _ no_data found held; told = none_size _ _ (refuse_ok _ v told) } in
+    let found_is : IsBlob found b = record { parts = parts; spelled = is.0; fits = is.1; plain = map_none compressed _ (refuse_ok _ u plain); held = ok_or_ok _ no_data found held; told = none_size _ _ (refuse_ok _ v told) } in
     subst (λ r. IsBlob r b) same found_is
 
 -- ---- the whole blob
@@ -72,7 +69,7 @@ eq_false : (a b : List ℕ) → a ≢ b → bytes_eq a b ≡ false
 eq_false a b differ = elim (cases_Bool (bytes_eq a b)) [ inl same ↦ absurd (differ ((bytes_decides a b).0 same)) | inr wrong ↦ wrong ]
 
 false_ne : (a b : List ℕ) → bytes_eq a b ≡ false → a ≢ b
-false_ne a b wrong e = true_no_false (bytes_eq a b) ((bytes_decides a b).1 e) wrong
+false_ne a b wrong e = both_ways (bytes_eq a b) wrong ((bytes_decides a b).1 e)
 
 content_is : (c : Content) (b : List ℕ) → HoldsContent c b → content_in (type_of c) b ≡ Ok c
 content_is (header raw) b h = ap (λ r. r >>= λ x. Ok (header x)) (raw_is raw b h)
@@ -95,17 +92,13 @@ content_found kind b c e =
           ]
     ]
 
-pub length-big_endian : (n : ℕ) → length (big_endian 4 n) ≡ 4
-unfolding big_endian
-length-big_endian n = length-bytes_high_first 4 n
-
 number-big_endian : (n : ℕ) → n ≤ header_limit → big_number 4 (big_endian 4 n) ≡ n
 unfolding big_endian
 number-big_endian n small = subst (λ b. big_number 4 b ≡ n) (append-nil (big_bytes 4 n)) (big_number-reads_back 4 n [] (omega (arith, small)))
 
 pub frame_reads : (at : ℕ) (c : Content) (b rest : List ℕ) → at < offset_limit → SpellsFrame c b → frame_front at (b ++ rest) ≡ Ok (c, length b)
 frame_reads at c b rest near h =
-    let four = length-big_endian (length h.head) in
+    let four = length-big_endian 4 (length h.head) in
     let parts : b ++ rest ≡ big_endian 4 (length h.head) ++ (h.head ++ (h.body ++ rest)) =
     ap (λ x. x ++ rest) h.whole ∙ append_assoc (big_endian 4 (length h.head) ++ h.head) h.body rest ∙ append_assoc (big_endian 4 (length h.head)) h.head (h.body ++ rest) in
     let behind_size : drop 4 (b ++ rest) ≡ h.head ++ (h.body ++ rest) = ap (drop 4) parts ∙ drop_at (big_endian 4 (length h.head)) _ 4 four in
@@ -127,35 +120,23 @@ pub record IsFrameFront (at : ℕ) (c : Content) (size : ℕ) (bytes : List ℕ)
   pub within : size ≤ length bytes
   pub spelled : SpellsFrame c (take size bytes)
 
-small_take : (n : ℕ) (bytes : List ℕ) → IsBytes bytes → IsBytes (take n bytes)
-small_take n bytes small i =
-    elim (cases_lt i n) [
-      | inl lt ↦ rw (get_or-take n bytes i 0 lt) (small i)
-      | inr le ↦ rw (get_or_past (take n bytes) i 0 (omega (arith, length-take n bytes, le))) (omega arith)
-    ]
-
 big_endian-number : (bytes : List ℕ) → IsBytes bytes → 4 ≤ length bytes → big_endian 4 (big_number 4 (take 4 bytes)) ≡ take 4 bytes
 unfolding big_endian
-big_endian-number bytes small fits = big_bytes-big_number 4 (take 4 bytes) (small_take 4 bytes small) (omega (arith, length-take-le 4 bytes fits)) ∙ take-take 4 4 bytes (omega arith)
+big_endian-number bytes small fits = big_bytes-big_number 4 (take 4 bytes) (take-bytes 4 bytes small) (omega (arith, length-take-le 4 bytes fits)) ∙ take-take 4 4 bytes (omega arith)
 
 positive : (n m : ℕ) → 0 < 4 + n + m
 positive n m = omega arith
 
-fits_within : (bytes : List ℕ) (n m : ℕ) → 4 ≤ length bytes → n ≤ length (drop 4 bytes) → m ≤ length (drop (4 + n) bytes) → (4 + n ≤ length bytes) × (4 + n + m ≤ length bytes)
-fits_within bytes n m four first second =
-    let left = length-drop 4 bytes in
-    let fits_one : 4 + n ≤ length bytes = omega arith in
-    let left_two = length-drop (4 + n) bytes in
-    (fits_one, omega arith)
+fits_within : (bytes : List ℕ) (n m : ℕ) → 4 ≤ length bytes → n ≤ length (drop 4 bytes) → m ≤ length (drop (4 + n) bytes) → 4 + n + m ≤ length bytes
+fits_within bytes n m four first second = omega (arith, four, first, second, length-drop 4 bytes, length-drop (4 + n) bytes)
 
 -- the bytes of a length, a head and a body that were taken one after another
-parts_whole : (bytes four head body : List ℕ) (n m : ℕ) → IsBytes bytes → big_number 4 four ≡ n → 4 ≤ length bytes → take 4 bytes ≡ four → n ≤ length (drop 4 bytes) → take n (drop 4 bytes) ≡ head → m ≤ length (drop (4 + n) bytes) → take m (drop (4 + n) bytes) ≡ body → take (4 + n + m) bytes ≡ big_endian 4 (length head) ++ head ++ body
-parts_whole bytes four head body n m small number fits first fits_head second fits_body third =
+parts_whole : (bytes four head body : List ℕ) (n m : ℕ) → IsBytes bytes → big_number 4 four ≡ n → 4 ≤ length bytes → take 4 bytes ≡ four → n ≤ length (drop 4 bytes) → take n (drop 4 bytes) ≡ head → take m (drop (4 + n) bytes) ≡ body → take (4 + n + m) bytes ≡ big_endian 4 (length head) ++ head ++ body
+parts_whole bytes four head body n m small number fits first fits_head second third =
     let head_len : length head ≡ n = ap length (sym second) ∙ length-take-le n (drop 4 bytes) fits_head in
     let four_is : big_endian 4 n ≡ four = ap (big_endian 4) (sym number) ∙ ap (λ x. big_endian 4 (big_number 4 x)) (sym first) ∙ big_endian-number bytes small fits ∙ first in
-    let within = fits_within bytes n m fits fits_head fits_body in
-    let front : take (4 + n) bytes ≡ big_endian 4 (length head) ++ head = split_take 4 n bytes within.0 ∙ ap (λ x. take 4 bytes ++ x) second ∙ ap (λ x. x ++ head) (first ∙ sym four_is ∙ ap (big_endian 4) (sym head_len)) in
-    split_take (4 + n) m bytes within.1 ∙ ap (λ x. take (4 + n) bytes ++ x) third ∙ ap (λ x. x ++ body) front
+    let front : take (4 + n) bytes ≡ big_endian 4 (length head) ++ head = take-add 4 n bytes ∙ ap (λ x. take 4 bytes ++ x) second ∙ ap (λ x. x ++ head) (first ∙ sym four_is ∙ ap (big_endian 4) (sym head_len)) in
+    take-add (4 + n) m bytes ∙ ap (λ x. take (4 + n) bytes ++ x) third ∙ ap (λ x. x ++ body) front
 
 length_taken : (n : ℕ) (bytes p : List ℕ) → n ≤ length bytes → take n bytes ≡ p → length p ≡ n
 length_taken n bytes p fits e = ap length (sym e) ∙ length-take-le n bytes fits
@@ -167,12 +148,12 @@ frame_from : (at : ℕ) (bytes four head body kind : List ℕ) (n m : ℕ) (part
 frame_from at bytes four head body kind n m parts c small near number first few second read named told most third holds =
     let head_len = length_taken n (drop 4 bytes) head second.0 second.1 in
     let body_len = length_taken m (drop (4 + n) bytes) body third.0 third.1 in
-    let whole = parts_whole bytes four head body n m small number first.0 first.1 second.0 second.1 third.0 third.1 in
+    let whole = parts_whole bytes four head body n m small number first.0 first.1 second.0 second.1 third.1 in
     let head_is : IsBlobHeader (type_of c) (length body) head = record { parts = parts; spelled = read.0; fits = read.1; named = named ∙ ap Some (sym holds.0); sized = told ∙ ap Some (sym body_len) } in
     record {
       near = near;
       some = positive n m;
-      within = (fits_within bytes n m first.0 second.0 third.0).1;
+      within = fits_within bytes n m first.0 second.0 third.0;
       spelled = record { head = head; body = body; whole = whole; head_size = subst (λ k. k ≤ header_limit) (sym head_len) few; body_size = subst (λ k. k ≤ blob_limit) (sym body_len) most; head_holds = head_is; body_holds = holds.1 };
     }
 
@@ -200,4 +181,4 @@ frame_found at bytes c size small e =
 pub some_bytes : (c : Content) (b : List ℕ) → SpellsFrame c b → 0 < length b
 some_bytes c b h =
     let count : length b ≡ length (big_endian 4 (length h.head) ++ h.head) + length h.body = ap length h.whole ∙ length-append (big_endian 4 (length h.head) ++ h.head) h.body in
-    omega (arith, count, length-append (big_endian 4 (length h.head)) h.head, length-big_endian (length h.head))
+    omega (arith, count, length-append (big_endian 4 (length h.head)) h.head, length-big_endian 4 (length h.head))

@@ -2,6 +2,7 @@
 use Rattle.std.proofs.Common.{◌≡◌, ◌==◌, ◌||◌, ℕ, List, [], ◌∷◌, ◌++◌, refl, ap, ◌∙◌, true, false, Bool, cond, Option, Some, None, nat_lt, append-nil}
 use Rattle.std.specs.Prelude.{map, unwrap_or, filter}
 use Rattle.std.specs.List.{last_or}
+use Rattle.std.proofs.Math.Bool.{or-false}
 use Rattle.std.proofs.lemmas.List.{map-append}
 use Rattle.std.proofs.lemmas.List.Elements.{filter-append}
 use Rattle.std.proofs.lemmas.List.Folds.{list_any-append}
@@ -9,7 +10,7 @@ use Rattle.mf_base.specs.declared.kind.EntityKind.{EntityKind}
 use Rattle.osm_model.specs.Entities.{Entity, kind_of, id_of}
 use Rattle.osm_model.specs.Order.{rank, has_later_kind, ids_of, last_id}
 
-last_or-with : (o : Option ℕ) (xs : List ℕ) (y : ℕ) → last_or o (xs ++ y ∷ []) ≡ Some y
+pub last_or-with : (o : Option ℕ) (xs : List ℕ) (y : ℕ) → last_or o (xs ++ y ∷ []) ≡ Some y
 last_or-with o [] y = refl
 last_or-with o (x ∷ xs) y = last_or-with (Some x) xs y
 
@@ -29,10 +30,6 @@ last_if false ids e = ap (λ xs. unwrap_or (last_or None xs) 0) (append-nil ids)
 pub last-with : (kind : EntityKind) (before : List Entity) (e : Entity) → last_id kind (before ++ e ∷ []) ≡ cond (rank (kind_of e) == rank kind) (id_of e) (last_id kind before)
 last-with kind before e = ap (λ ids. unwrap_or (last_or None ids) 0) (ids-with kind before e) ∙ last_if (rank (kind_of e) == rank kind) (ids_of kind before) e
 
-or_false : (b : Bool) → (b || false) ≡ b
-or_false true = refl
-or_false false = refl
-
 pub later-with : (kind : EntityKind) (before : List Entity) (e : Entity) → has_later_kind kind (before ++ e ∷ []) ≡ (has_later_kind kind before || nat_lt (rank kind) (rank (kind_of e)))
 later-with kind before e =
-    list_any-append (λ d. nat_lt (rank kind) (rank (kind_of d))) before (e ∷ []) ∙ ap (λ b. has_later_kind kind before || b) (or_false (nat_lt (rank kind) (rank (kind_of e))))
+    list_any-append (λ d. nat_lt (rank kind) (rank (kind_of d))) before (e ∷ []) ∙ ap (λ b. has_later_kind kind before || b) (or-false (nat_lt (rank kind) (rank (kind_of e))))

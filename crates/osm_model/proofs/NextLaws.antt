@@ -2,12 +2,13 @@
 use Rattle.std.proofs.Common.{◌≡◌, ℕ, ◌+◌, ◌≤◌, List, [], ◌∷◌, ◌++◌, length, refl, sym, ap, subst, ◌∙◌, arith, inl, inr, true, false, Bool, cond, Result, Ok, Err, Option, Some, None, append_assoc, append-nil, length-append}
 use Rattle.std.specs.Prelude.{find}
 use Rattle.std.proofs.lemmas.Bool.{cases_Bool}
+use Rattle.std.proofs.lemmas.Option.{none-some, same_Some}
 use Rattle.mf_base.specs.Spelling.{IsBytes, big_endian}
-use Rattle.mf_base.proofs.StepLaws.{ok_is, some_is, no_some, err_is_no_ok}
+use Rattle.mf_base.proofs.StepLaws.{ok_is, err_is_no_ok}
 use Rattle.osm_model.specs.Reading.{Reading}
 use Rattle.osm_model.specs.Frames.{Content, Frame, FrameFaultAt, AreFrames, SpellsFrame, FramesEnd, frames_at, is_known, known_frames, next_known, PassesOver, LeadsTo}
 use Rattle.osm_model.proofs.TableLaws.{some_no_none}
-use Rattle.osm_model.proofs.FrameLaws.{length-big_endian}
+use Rattle.mf_base.proofs.ByteLaws.{length-big_endian}
 use Rattle.osm_model.proofs.FrameListLaws.{frames-append, frames_read, frames_split}
 
 -- what is told where this blob was found, or none, and there is this fault behind the blobs
@@ -42,12 +43,12 @@ abbrev FoundIn : List Frame → Frame → Type 0
 FoundIn fs f = (passed : List Frame) × (later : List Frame) × (fs ≡ passed ++ (f ∷ later)) × (known_frames passed ≡ []) × (is_known f ≡ true)
 
 found_in : (fs : List Frame) (f : Frame) → find is_known fs ≡ Some f → FoundIn fs f
-found_in [] f e = absurd (no_some f e)
+found_in [] f e = absurd (none-some f e)
 found_in (g ∷ fs) f e = go (λ h. found_in fs f h) (is_known g) refl
   where
     go : (find is_known fs ≡ Some f → FoundIn fs f) → (c : Bool) → is_known g ≡ c → FoundIn (g ∷ fs) f
     go others true known =
-        let same : g ≡ f = some_is g f (sym (find-known g fs known) ∙ e) in
+        let same : g ≡ f = same_Some g f (sym (find-known g fs known) ∙ e) in
         subst (FoundIn (g ∷ fs)) same ([], fs, refl, refl, known)
     go others false unknown =
         let (passed, later, whole, none, known) = others (ap (λ c. cond c (Some g) (find is_known fs)) (sym unknown) ∙ e) in
@@ -65,7 +66,7 @@ none_in (g ∷ fs) e = go (λ h. none_in fs h) (is_known g) refl
 told_some : (found : Option Frame) (fault : Option FrameFaultAt) (f : Frame) → told_next found fault ≡ Ok (Some f) → found ≡ Some f
 told_some (Some g) fault f e = ok_is (Some g) (Some f) e
 told_some None (Some told) f e = absurd (err_is_no_ok told (Some f) e)
-told_some None None f e = absurd (no_some f (ok_is None (Some f) e))
+told_some None None f e = absurd (none-some f (ok_is None (Some f) e))
 
 told_none : (found : Option Frame) (fault : Option FrameFaultAt) → told_next found fault ≡ Ok None → (found ≡ None) × (fault ≡ None)
 told_none (Some g) fault e = absurd (some_no_none g (ok_is (Some g) None e))
@@ -105,4 +106,4 @@ passed_over at bytes small e =
 pub at_most : (c : Content) (b : List ℕ) → SpellsFrame c b → length b ≤ 4 + 65535 + 33554432
 at_most c b h =
     let count : length b ≡ length (big_endian 4 (length h.head) ++ h.head) + length h.body = ap length h.whole ∙ length-append (big_endian 4 (length h.head) ++ h.head) h.body in
-    omega (arith, count, length-append (big_endian 4 (length h.head)) h.head, length-big_endian (length h.head), h.head_size, h.body_size)
+    omega (arith, count, length-append (big_endian 4 (length h.head)) h.head, length-big_endian 4 (length h.head), h.head_size, h.body_size)

@@ -31,7 +31,7 @@ runs-append (b ∷ c) rest run =
           runs-high b (c ++ rest) high ∙ ap (before_first b) (runs-append c rest (omega (arith, run, high_run-high b c high)))
     ]
 
-varint_is : (n : ℕ) (b : List ℕ) → IsVarint n b → is_varint b ≡ true
+pub varint_is : (n : ℕ) (b : List ℕ) → IsVarint n b → is_varint b ≡ true
 varint_is n b v =
     and_from _ _ (and_from _ _ (eq-eqb _ _ v.run) (le-leb _ _ v.short)) (lt-ltb _ _ (subst (λ k. k < 2 ^ 64) v.value v.fits))
 

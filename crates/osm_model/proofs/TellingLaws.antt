@@ -11,7 +11,7 @@ use Rattle.mf_base.specs.declared.kind.EntityKind.TheVariants as kinds
 use Rattle.osm_model.specs.Wire.{Field}
 use Rattle.osm_model.specs.Tables.{message, dense_nodes, node_table, way_table, relation_table, MessageFault, counted_bytes, packed_of, signed_of}
 use Rattle.osm_model.specs.Blocks.{BlockHead, PrimitiveBlock, is_coordinate, place_of}
-use Rattle.osm_model.specs.Objects.{signed, int64_id, coordinate, range, columns, wire, with_list, empty_run, tags_of, run_tags, column, members_of, runs_of, zip_three, EntityFault, Object, TagRun, node_of, node_object, dense_node, with_runs, dense_columns, dense_objects, way_of, way_object, relation_of, relation_object, objects_at, field_objects, group_fields, group_objects, block_objects}
+use Rattle.osm_model.specs.Objects.{signed, int64_id, coordinate, range, columns, wire, with_list, empty_run, indexed_tags, run_tags, column, members_of, runs_of, zip_three, EntityFault, Object, TagRun, node_of, node_object, dense_node, with_runs, dense_columns, dense_objects, way_of, way_object, relation_of, relation_object, objects_at, field_objects, group_fields, group_objects, block_objects}
 use Rattle.osm_model.specs.Entities.{Member, Entity, node, way, relation, kind_of, id_of}
 
 -- what an object is has its kind and its id
@@ -54,7 +54,7 @@ abbrev pub Consistent : Object → Type 0
 Consistent o = IsItself o.kind o.id o.entity
 
 abbrev node_at : PrimitiveBlock → List Field → ℤ → ℤ → ℤ → Object
-node_at b parts id lat lon = record { kind = kinds.Node; id = id; entity = node_of b.head id lat lon (tags_of b.strings (packed_of 2 parts) (packed_of 3 parts)) }
+node_at b parts id lat lon = record { kind = kinds.Node; id = id; entity = node_of b.head id lat lon (indexed_tags b.strings (packed_of 2 parts) (packed_of 3 parts)) }
 
 node_tells : (b : PrimitiveBlock) (bytes : List ℕ) → Tells (node_object b bytes)
 unfolding node_object
@@ -63,27 +63,27 @@ node_tells b bytes object h =
     let (id, has_id, r2) = bind_ok (signed 1 parts) (λ i. signed 8 parts >>= λ lat. signed 9 parts >>= λ lon. Ok (node_at b parts i lat lon)) object r1 in
     let (lat, has_lat, r3) = bind_ok (signed 8 parts) (λ y. signed 9 parts >>= λ lon. Ok (node_at b parts id y lon)) object r2 in
     let (lon, has_lon, last) = bind_ok (signed 9 parts) (λ x. Ok (node_at b parts id lat x)) object r3 in
-    subst Consistent {x = node_at b parts id lat lon} (ok_is (node_at b parts id lat lon) object last) (node_is b.head id lat lon (tags_of b.strings (packed_of 2 parts) (packed_of 3 parts)))
+    subst Consistent {x = node_at b parts id lat lon} (ok_is (node_at b parts id lat lon) object last) (node_is b.head id lat lon (indexed_tags b.strings (packed_of 2 parts) (packed_of 3 parts)))
 
 abbrev way_at : PrimitiveBlock → List Field → ℤ → Object
-way_at b parts id = record { kind = kinds.Way; id = id; entity = way_of id (column (signed_of 8 parts)) (tags_of b.strings (packed_of 2 parts) (packed_of 3 parts)) }
+way_at b parts id = record { kind = kinds.Way; id = id; entity = way_of id (column (signed_of 8 parts)) (indexed_tags b.strings (packed_of 2 parts) (packed_of 3 parts)) }
 
 way_tells : (b : PrimitiveBlock) (bytes : List ℕ) → Tells (way_object b bytes)
 unfolding way_object
 way_tells b bytes object h =
     let (parts, read, r1) = bind_ok (told_as wire (message way_table bytes)) (λ p. int64_id p >>= λ id. Ok (way_at b p id)) object h in
     let (id, has_id, last) = bind_ok (int64_id parts) (λ i. Ok (way_at b parts i)) object r1 in
-    subst Consistent (ok_is (way_at b parts id) object last) (way_is id (column (signed_of 8 parts)) (tags_of b.strings (packed_of 2 parts) (packed_of 3 parts)))
+    subst Consistent (ok_is (way_at b parts id) object last) (way_is id (column (signed_of 8 parts)) (indexed_tags b.strings (packed_of 2 parts) (packed_of 3 parts)))
 
 abbrev relation_at : PrimitiveBlock → List Field → ℤ → Object
-relation_at b parts id = record { kind = kinds.Relation; id = id; entity = relation_of id (members_of b.strings (packed_of 8 parts) (signed_of 9 parts) (packed_of 10 parts)) (tags_of b.strings (packed_of 2 parts) (packed_of 3 parts)) }
+relation_at b parts id = record { kind = kinds.Relation; id = id; entity = relation_of id (members_of b.strings (packed_of 8 parts) (signed_of 9 parts) (packed_of 10 parts)) (indexed_tags b.strings (packed_of 2 parts) (packed_of 3 parts)) }
 
 relation_tells : (b : PrimitiveBlock) (bytes : List ℕ) → Tells (relation_object b bytes)
 unfolding relation_object
 relation_tells b bytes object h =
     let (parts, read, r1) = bind_ok (told_as wire (message relation_table bytes)) (λ p. int64_id p >>= λ id. Ok (relation_at b p id)) object h in
     let (id, has_id, last) = bind_ok (int64_id parts) (λ i. Ok (relation_at b parts i)) object r1 in
-    subst Consistent (ok_is (relation_at b parts id) object last) (relation_is id (members_of b.strings (packed_of 8 parts) (signed_of 9 parts) (packed_of 10 parts)) (tags_of b.strings (packed_of 2 parts) (packed_of 3 parts)))
+    subst Consistent (ok_is (relation_at b parts id) object last) (relation_is id (members_of b.strings (packed_of 8 parts) (signed_of 9 parts) (packed_of 10 parts)) (indexed_tags b.strings (packed_of 2 parts) (packed_of 3 parts)))
 
 abbrev dense_at : PrimitiveBlock → ℤ → ℤ → ℤ → TagRun → Object
 dense_at b id lat lon run = record { kind = kinds.Node; id = id; entity = node_of b.head id lat lon (run_tags b.strings run) }

@@ -57,8 +57,8 @@ tag_at strings pair = do
   Ok (key, value)
 
 -- the tags of a list of indices of keys and one of values
-unfoldable pub tags_of : List (List ℕ) → List ℕ → List ℕ → Result Tags EntityFault
-tags_of strings keys vals = do
+unfoldable pub indexed_tags : List (List ℕ) → List ℕ → List ℕ → Result Tags EntityFault
+indexed_tags strings keys vals = do
   _ ← require (length keys == length vals) key_without_value
   each (tag_at strings) (zip keys vals)
 
@@ -98,7 +98,7 @@ node_object in_block bytes = do
   id ← signed 1 parts
   lat ← signed 8 parts
   lon ← signed 9 parts
-  Ok (record { kind = kinds.Node; id = id; entity = node_of in_block.head id lat lon (tags_of in_block.strings (packed_of 2 parts) (packed_of 3 parts)) })
+  Ok (record { kind = kinds.Node; id = id; entity = node_of in_block.head id lat lon (indexed_tags in_block.strings (packed_of 2 parts) (packed_of 3 parts)) })
 
 -- ---- dense nodes
 
@@ -207,7 +207,7 @@ unfoldable pub way_object : PrimitiveBlock → List ℕ → Result Object Entity
 way_object in_block bytes = do
   parts ← told_as wire (message way_table bytes)
   id ← int64_id parts
-  Ok (record { kind = kinds.Way; id = id; entity = way_of id (column (signed_of 8 parts)) (tags_of in_block.strings (packed_of 2 parts) (packed_of 3 parts)) })
+  Ok (record { kind = kinds.Way; id = id; entity = way_of id (column (signed_of 8 parts)) (indexed_tags in_block.strings (packed_of 2 parts) (packed_of 3 parts)) })
 
 -- ---- relations
 
@@ -244,7 +244,7 @@ unfoldable pub relation_object : PrimitiveBlock → List ℕ → Result Object E
 relation_object in_block bytes = do
   parts ← told_as wire (message relation_table bytes)
   id ← int64_id parts
-  Ok (record { kind = kinds.Relation; id = id; entity = relation_of id (members_of in_block.strings (packed_of 8 parts) (signed_of 9 parts) (packed_of 10 parts)) (tags_of in_block.strings (packed_of 2 parts) (packed_of 3 parts)) })
+  Ok (record { kind = kinds.Relation; id = id; entity = relation_of id (members_of in_block.strings (packed_of 8 parts) (signed_of 9 parts) (packed_of 10 parts)) (indexed_tags in_block.strings (packed_of 2 parts) (packed_of 3 parts)) })
 
 -- ---- groups
 
