@@ -1,17 +1,18 @@
 -- The check of a message, field by field.
-use Rattle.std.proofs.Common.{◌≡◌, ◌∷◌, ◌==◌, ◌||◌, ◌+◌, ◌<◌, ◌∙◌, ap, sym, refl, subst, arith, inl, inr, ℕ, suc, List, [], Bool, true, false, cond, Option, Some, None, length, get_or, nat_lt, not, ◌≤◌, Result, Ok, Err}
+use Rattle.std.proofs.Common.{◌≡◌, ◌∷◌, ◌==◌, ◌+◌, ◌<◌, ◌∙◌, ap, sym, refl, subst, arith, inl, inr, ℕ, suc, List, [], Bool, true, false, cond, Option, Some, None, length, get_or, nat_lt, not, ◌≤◌, Result, Ok, Err}
 use Rattle.std.specs.Option.{option_or}
-use Rattle.std.specs.List.{list_any, prefix_len}
+use Rattle.std.specs.List.{prefix_len}
 use Rattle.std.specs.Prelude.{option_map, slice_set}
-use Rattle.std.proofs.lemmas.Bool.{cases_Bool, cases_eq, cases_lt, lt-ltb, le-ltb, eq-eqb, eqb-true, ne_eqb}
+use Rattle.std.proofs.lemmas.Bool.{cases_Bool, cases_eq, cases_lt, lt-ltb, le-ltb, eqb-true}
 use Rattle.std.proofs.lemmas.List.{get_or-set_other, get_or-replicate}
 use Rattle.std.proofs.Math.ListN.{replicate}
 use Rattle.std.proofs.lemmas.Grind.{get_or-set_at}
-use Rattle.mf_base.proofs.StepLaws.{some_is, no_some}
+use Rattle.std.proofs.lemmas.Option.{none-some, same_Some}
+use Rattle.mf_base.proofs.StepLaws.{map_none}
 use Rattle.osm_model.specs.Wire.{fields, Field, WireFault}
 use Rattle.osm_model.specs.Reading.{then_reads, stops_at, all_read, Reading}
-use Rattle.osm_model.proofs.TableLaws.{or_none, none_fits, some_no_none}
-use Rattle.osm_model.specs.Tables.{FitsTable, message, Table, wire, form_of, form_fault, field_fault, fields_fault, message_fault, MessageFault}
+use Rattle.osm_model.proofs.TableLaws.{or_none, none_fits, any-same, any-other}
+use Rattle.osm_model.specs.Tables.{FitsTable, Table, wire, form_of, form_fault, field_fault, fields_fault, message_fault, MessageFault}
 use Rattle.pbf_wire.specs.declared.rules.FieldRule.{FieldRule}
 use Rattle.pbf_wire.specs.declared.rules.Form.TheVariants.{Number}
 use Rattle.pbf_wire.specs.Rules.{table_of, form_shown}
@@ -46,26 +47,22 @@ rule-behind : (rule : FieldRule) (rules : List FieldRule) (k at : ℕ) → (rule
 rule-behind rule rules k at e is = record { within = omega (arith, is.within); same = is.same; known = λ d. rw e (is.known d) }
 
 pub rule_at : (rules : List FieldRule) (k at : ℕ) → place_in rules k ≡ Some at → IsRule rules k at
-rule_at [] k at e = absurd (no_some at e)
+rule_at [] k at e = absurd (none-some at e)
 rule_at (rule ∷ rules) k at e = elim (cases_Bool (rule.number == k)) [
-  | inl here ↦ subst (IsRule (rule ∷ rules) k) (some_is 0 at (sym (place-here rule rules k here) ∙ e)) (rule-here rule rules k here)
+  | inl here ↦ subst (IsRule (rule ∷ rules) k) (same_Some 0 at (sym (place-here rule rules k here) ∙ e)) (rule-here rule rules k here)
   | inr behind ↦ go rule rules k at behind (λ at e. rule_at rules k at e) (place_in rules k) refl (sym (place-behind rule rules k behind) ∙ e)
 ]
   where
     go : (rule : FieldRule) (rules : List FieldRule) (k at : ℕ) → (rule.number == k) ≡ false → ((at : ℕ) → place_in rules k ≡ Some at → IsRule rules k at) → (place : Option ℕ) → place_in rules k ≡ place → option_map suc place ≡ Some at → IsRule (rule ∷ rules) k at
-    go rule rules k at behind others None e f = absurd (no_some at f)
-    go rule rules k at behind others (Some before) e f = subst (IsRule (rule ∷ rules) k) (some_is (suc before) at f) (rule-behind rule rules k before behind (others before e))
+    go rule rules k at behind others None e f = absurd (none-some at f)
+    go rule rules k at behind others (Some before) e f = subst (IsRule (rule ∷ rules) k) (same_Some (suc before) at f) (rule-behind rule rules k before behind (others before e))
 
 pub no_rule : (rules : List FieldRule) (k : ℕ) → place_in rules k ≡ None → form_of (table_of rules) k ≡ None
 no_rule [] k e = refl
 no_rule (rule ∷ rules) k e = elim (cases_Bool (rule.number == k)) [
-  | inl here ↦ absurd (no_some 0 (sym e ∙ place-here rule rules k here))
-  | inr behind ↦ rw behind (no_rule rules k (none-behind (place_in rules k) (sym (place-behind rule rules k behind) ∙ e)))
+  | inl here ↦ absurd (none-some 0 (sym e ∙ place-here rule rules k here))
+  | inr behind ↦ rw behind (no_rule rules k (map_none suc (place_in rules k) (sym (place-behind rule rules k behind) ∙ e)))
 ]
-  where
-    none-behind : (place : Option ℕ) → option_map suc place ≡ None → place ≡ None
-    none-behind None e = refl
-    none-behind (Some at) e = absurd (no_some (suc at) (sym e))
 
 -- ---- what is noted
 
@@ -76,21 +73,15 @@ any_rule = record { number = 0; form = Number }
 one_number : (rules : List FieldRule) (k j at : ℕ) → place_in rules k ≡ Some at → place_in rules j ≡ Some at → k ≡ j
 one_number rules k j at e f = sym ((rule_at rules k at e).same any_rule) ∙ (rule_at rules j at f).same any_rule
 
-same_notes : (k j : ℕ) (old : Bool) → k ≡ j → true ≡ (k == j) || old
-same_notes k j old e = rw (eq-eqb k j e) refl
-
-other_notes : (k j : ℕ) (old : Bool) → (k ≡ j → ⊥) → old ≡ (k == j) || old
-other_notes k j old e = rw (ne_eqb k j e) refl
-
 pub notes-more : (rules : List FieldRule) (before : List ℕ) (seen : List Bool) (k at : ℕ) → length seen ≡ length rules → Notes rules before seen → place_in rules k ≡ Some at → Notes rules (k ∷ before) (slice_set seen at true)
 notes-more rules before seen k at same notes e j place f = elim (cases_eq place at) [
   | inl one ↦
       let within = (rule_at rules k at e).within in
       get_or-set_at seen at place true false one (omega (arith, within, same))
-      ∙ same_notes k j (list_any (λ i. i == j) before) (one_number rules k j at e (f ∙ ap Some one))
+      ∙ sym (any-same j k before (one_number rules k j at e (f ∙ ap Some one)))
   | inr other ↦
       get_or-set_other seen at place true false other ∙ notes j place f
-      ∙ other_notes k j (list_any (λ i. i == j) before) (λ same_field. other (some_is place at (sym f ∙ ap (place_in rules) (sym same_field) ∙ e)))
+      ∙ sym (any-other j k before (λ same_field. other (same_Some place at (sym f ∙ ap (place_in rules) (sym same_field) ∙ e))))
 ]
 
 -- nothing stood yet
@@ -156,16 +147,8 @@ accepted (Err f) fault e holds = tt
 
 pub message-whole : (table : Table) (bytes : List ℕ) → message_fault table bytes ≡ None → (fields bytes).fault ≡ None
 unfolding message_fault
-message-whole table bytes e = no_wire (fields bytes).fault (or_none (fields_fault table [] (fields bytes).items) (option_map wire (fields bytes).fault) e).1
-  where
-    no_wire : (fault : Option WireFault) → option_map wire fault ≡ None → fault ≡ None
-    no_wire None e = refl
-    no_wire (Some fault) e = absurd (some_no_none (wire fault) e)
+message-whole table bytes e = map_none wire (fields bytes).fault (or_none (fields_fault table [] (fields bytes).items) (option_map wire (fields bytes).fault) e).1
 
 pub message-fits : (table : Table) (bytes : List ℕ) → message_fault table bytes ≡ None → FitsTable table (fields bytes).items
 unfolding message_fault
 message-fits table bytes e = none_fits table (fields bytes).items (or_none (fields_fault table [] (fields bytes).items) (option_map wire (fields bytes).fault) e).0
-
-pub message-is : (table : Table) (bytes : List ℕ) → message_fault table bytes ≡ None → message table bytes ≡ Ok (fields bytes).items
-unfolding message
-message-is table bytes e = rw (e, message) refl

@@ -1,12 +1,12 @@
 -- The field in front of bytes, step by step.
-use Rattle.std.proofs.Common.{◌≡◌, ◌⊎◌, ℕ, ◌+◌, ◌-◌, take, length, sym, Result, Option, [], ◌∷◌, ◌/◌, ◌%◌, ◌<◌, ◌≤◌, ◌^◌, ◌&&◌, List, drop, refl, arith, subst, inl, inr, true, Ok, Err, nat_lt, nat_le}
-use Rattle.std.proofs.lemmas.Bool.{lt-ltb, le-leb, lt-leb, le-ltb, and_left, and_right}
-use Rattle.std.proofs.lemmas.List.{take_all, length-drop}
+use Rattle.std.proofs.Common.{◌≡◌, ◌⊎◌, ℕ, ◌+◌, length, sym, Result, Option, [], ◌∷◌, ◌/◌, ◌%◌, ◌<◌, ◌≤◌, ◌^◌, List, drop, refl, arith, subst, inl, inr, Ok, Err, nat_lt, nat_le}
+use Rattle.std.proofs.lemmas.Bool.{lt-leb, le-ltb, and_left, and_right}
 use Rattle.pbf_wire.specs.declared.fields.WireFault as reader
 use Rattle.pbf_wire.specs.declared.fields.Field as reader_field
 use Rattle.pbf_wire.specs.Shown.{Gives, GivesNext, fault_shown}
 use Rattle.osm_model.specs.Wire.{Value, WireFault, kind_fault, number_front, value_front, field_front, fields}
 use Rattle.osm_model.specs.Reading.{stops_at}
+use Rattle.osm_model.proofs.FieldLaws.{is_number}
 use Rattle.osm_model.proofs.MessageLaws.{fields-stop}
 
 pub front-no_key : (bytes : List ℕ) (fault : WireFault) → number_front bytes ≡ Err fault → field_front bytes ≡ Err fault
@@ -19,21 +19,14 @@ unfolding field_front
 front-no_number bytes key at e (inl low) = rw e (rw (and_left (nat_le 1 (key / 8)) (nat_lt (key / 8) (2 ^ 29)) (lt-leb 1 (key / 8) low)) refl)
 front-no_number bytes key at e (inr (least, high)) = rw e (rw (and_right (nat_le 1 (key / 8)) (nat_lt (key / 8) (2 ^ 29)) (le-ltb (key / 8) (2 ^ 29) high)) refl)
 
-numbered : (k : ℕ) → 1 ≤ k → k < 2 ^ 29 → (nat_le 1 k && nat_lt k (2 ^ 29)) ≡ true
-numbered k least most = rw (le-leb 1 k least, lt-ltb k (2 ^ 29) most) refl
-
 pub front-no_value : (bytes : List ℕ) (key at : ℕ) (fault : WireFault) → number_front bytes ≡ Ok (key, at) → 1 ≤ key / 8 → key / 8 < 2 ^ 29 → value_front (key % 8) (drop at bytes) ≡ Err fault → field_front bytes ≡ Err fault
 unfolding field_front
-front-no_value bytes key at fault e least most value = rw e (rw (numbered (key / 8) least most) (rw value refl))
+front-no_value bytes key at fault e least most value = rw e (rw (is_number (key / 8) least most) (rw value refl))
 
 pub front-field : (bytes : List ℕ) (key at : ℕ) (value : Value) (size : ℕ) → number_front bytes ≡ Ok (key, at) → 1 ≤ key / 8 → key / 8 < 2 ^ 29 → value_front (key % 8) (drop at bytes) ≡ Ok (value, size)
     → field_front bytes ≡ Ok (record { number = key / 8; value = value }, at + size)
 unfolding field_front
-front-field bytes key at value size e least most read = rw e (rw (numbered (key / 8) least most) (rw read refl))
-
--- what stands behind so many bytes, as a slice
-pub behind : (bytes : List ℕ) (at : ℕ) → take (length bytes - at) (drop at bytes) ≡ drop at bytes
-behind bytes at = take_all (length bytes - at) (drop at bytes) (omega (arith, length-drop at bytes))
+front-field bytes key at value size e least most read = rw e (rw (is_number (key / 8) least most) (rw read refl))
 
 -- a fault that was handed on
 pub gives-fault : {A B : Type 0} (Shows : A → B → Type 0) (r : Result (A × ℕ) reader.WireFault) (fault : reader.WireFault) (front : Result (B × ℕ) WireFault) → r ≡ Err fault → front ≡ Err (fault_shown fault) → Gives Shows r front

@@ -1,10 +1,10 @@
 -- The first of whole varints, and how many they are.
-use Rattle.std.proofs.Common.{◌≡◌, ◌<◌, ◌^◌, ◌&&◌, ℕ, suc, List, [], ◌∷◌, length, take, drop, get_or, map, refl, sym, ap, subst, ◌∙◌, arith, inl, inr, true, false, cond, Ok, Err, Result, nat_lt}
+use Rattle.std.proofs.Common.{◌≡◌, ◌<◌, ◌&&◌, ℕ, suc, List, [], ◌∷◌, length, take, drop, get_or, map, refl, sym, ap, ◌∙◌, arith, inl, inr, true, false, cond, Ok, Err, Result, nat_lt}
 use Rattle.std.specs.List.{list_all, count_by}
-use Rattle.std.proofs.lemmas.Bool.{cases_lt, cases_Bool, lt-ltb, le-ltb, le-leb, eq-eqb, and_from}
+use Rattle.std.proofs.lemmas.Bool.{cases_lt, cases_Bool, lt-ltb, le-ltb}
 use Rattle.std.proofs.lemmas.List.{take-append-drop, nil_from_length}
 use Rattle.std.proofs.lemmas.List.Sums.{sum_by-append}
-use Rattle.mf_base.specs.Spelling.{IsVarint, high_run, sevens}
+use Rattle.mf_base.specs.Spelling.{high_run, sevens}
 use Rattle.mf_base.specs.NumberReading.{varint_front, read_at}
 use Rattle.mf_base.specs.declared.number.VarintFault.{VarintFault}
 use Rattle.mf_base.proofs.Runs.{high_run-low, high_run-high}
@@ -12,7 +12,7 @@ use Rattle.mf_base.proofs.VarintRead.{read-none, answer-within}
 use Rattle.mf_base.proofs.NumberLemmas.{varint_reads, varint_found}
 use Rattle.mf_base.proofs.StepLaws.{err_is_no_ok}
 use Rattle.osm_model.specs.Wire.{runs, is_varint, are_varints, packed_numbers, IsPacked}
-use Rattle.osm_model.proofs.PackedLaws.{packed_found, runs-nil, runs-append}
+use Rattle.osm_model.proofs.PackedLaws.{varint_is, packed_found, runs-nil, runs-append}
 
 -- what is read at the start is what stands in front
 read_there : {F : Type 0} (front : Result (ℕ × ℕ) F) → front ≡ read_at 0 front
@@ -34,13 +34,10 @@ numbers-first bytes n size e =
     let found = varint_found bytes n size e in
     ap (map sevens) (first_run_of bytes n size e) ∙ ap (λ k. k ∷ packed_numbers (drop size bytes)) (sym found.spelled.value)
 
-varint-is : (n : ℕ) (b : List ℕ) → IsVarint n b → is_varint b ≡ true
-varint-is n b v = and_from _ _ (and_from _ _ (eq-eqb _ _ v.run) (le-leb _ _ v.short)) (lt-ltb _ _ (subst (λ k. k < 2 ^ 64) v.value v.fits))
-
 pub whole-first : (bytes : List ℕ) (n size : ℕ) → varint_front bytes ≡ Ok (n, size) → are_varints bytes ≡ are_varints (drop size bytes)
 whole-first bytes n size e =
     let found = varint_found bytes n size e in
-    ap (list_all is_varint) (first_run_of bytes n size e) ∙ ap (λ b. b && are_varints (drop size bytes)) (varint-is n (take size bytes) found.spelled)
+    ap (list_all is_varint) (first_run_of bytes n size e) ∙ ap (λ b. b && are_varints (drop size bytes)) (varint_is n (take size bytes) found.spelled)
 
 -- whole varints begin with one, unless there is none
 no_packed : (bytes ns : List ℕ) (fault : VarintFault) → IsPacked bytes ns → varint_front bytes ≡ Err fault → bytes ≡ []

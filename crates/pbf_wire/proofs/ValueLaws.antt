@@ -1,9 +1,10 @@
 -- The values of a field behind one more.
-use Rattle.std.proofs.Common.{◌≡◌, ◌≢◌, ◌==◌, ◌∙◌, ℕ, List, [], ◌∷◌, ◌++◌, ap, refl, append-nil, cond, Some, None, Option, unwrap_or}
+use Rattle.std.proofs.Common.{◌≡◌, ◌≢◌, ◌==◌, ◌∙◌, ℕ, List, [], ◌∷◌, ◌++◌, ap, append-nil, cond, Some, None, unwrap_or}
 use Rattle.std.specs.Prelude.{filter_map}
 use Rattle.std.specs.List.{last_or, cons_option}
 use Rattle.std.proofs.lemmas.Bool.{eq-eqb, ne_eqb}
 use Rattle.std.proofs.lemmas.List.Elements.{filter_map-append}
+use Rattle.osm_model.proofs.LastLaws.{last_or-with}
 use Rattle.osm_model.specs.Wire.{Field, Value, varint}
 use Rattle.osm_model.specs.Tables.{values_of, bytes_of, number_of, varint_in, counted_bytes}
 
@@ -12,10 +13,6 @@ values-append k fs gs = filter_map-append (λ (f : Field). cond (f.number == k) 
 
 pub bytes-append : (k : ℕ) (fs gs : List Field) → bytes_of k (fs ++ gs) ≡ bytes_of k fs ++ bytes_of k gs
 bytes-append k fs gs = ap (filter_map counted_bytes) (values-append k fs gs) ∙ filter_map-append counted_bytes (values_of k fs) (values_of k gs)
-
-last_behind : (o : Option ℕ) (xs : List ℕ) (y : ℕ) → last_or o (xs ++ y ∷ []) ≡ Some y
-last_behind o [] y = refl
-last_behind o (x ∷ xs) y = last_behind (Some x) xs y
 
 -- the values that one field has of number k
 value-same : (k : ℕ) (f : Field) → f.number ≡ k → values_of k (f ∷ []) ≡ f.value ∷ []
@@ -30,7 +27,7 @@ numbers-append k fs f vs e =
 
 pub number-last : (k n : ℕ) (fs : List Field) (f : Field) → f.number ≡ k → f.value ≡ varint n → number_of k (fs ++ f ∷ []) ≡ Some n
 number-last k n fs f e value =
-    ap (last_or None) (numbers-append k fs f (varint n ∷ []) (value-same k f e ∙ ap (λ v. v ∷ []) value)) ∙ last_behind None (filter_map varint_in (values_of k fs)) n
+    ap (last_or None) (numbers-append k fs f (varint n ∷ []) (value-same k f e ∙ ap (λ v. v ∷ []) value)) ∙ last_or-with None (filter_map varint_in (values_of k fs)) n
 
 pub number-other : (k : ℕ) (fs : List Field) (f : Field) → f.number ≢ k → number_of k (fs ++ f ∷ []) ≡ number_of k fs
 number-other k fs f e = ap (last_or None) (numbers-append k fs f [] (value-other k f e) ∙ append-nil (filter_map varint_in (values_of k fs)))

@@ -3,7 +3,8 @@ use Rattle.std.proofs.lemmas.List.{nil_from_length}
 use Rattle.osm_model.specs.Wire.{fields, field_front}
 use Rattle.osm_model.specs.Reading.{then_reads}
 use Rattle.osm_model.proofs.MessageLaws.{fields-nil, fields-more}
-use Rattle.pbf_wire.proofs.FieldReads.{behind, gives-next_fault}
+use Rattle.std.proofs.lemmas.List.{take_rest}
+use Rattle.pbf_wire.proofs.FieldReads.{gives-next_fault}
 use Rattle.pbf_wire.proofs.fields.Fields.next.Goals as goal
 
 pub returns-then-is_empty-clause-reads : goal.returns-then-is_empty-clause-reads
@@ -21,4 +22,4 @@ pub returns-clause-reads : goal.returns-clause-reads
 returns-clause-reads c =
     let (field, shows, read) = (c.in_ok-field.ensures {u = tt}).front in
     let bytes = c.self.inside.rest.now in
-    (field, shows, ap fields (sym c.self.view_is) ∙ fields-more bytes field c.in_ok-field.size read ∙ ap (λ b. then_reads field (fields b)) (sym (behind bytes c.in_ok-field.size)))
+    (field, shows, ap fields (sym c.self.view_is) ∙ fields-more bytes field c.in_ok-field.size read ∙ ap (λ b. then_reads field (fields b)) (sym (take_rest bytes c.in_ok-field.size)))
