@@ -13,7 +13,7 @@ use Rattle.mf_base.specs.Ranges.{within, lies_within}
 use Rattle.feature_model.specs.Mapping.{IsOfKind, Entry, ValueKind, KeptValue, value_kind, read_by, kept_by}
 use Rattle.feature_model.specs.Choice.{Kept, Match, match_of, matches, layer_of, Choice, choice_of, choice}
 use Rattle.feature_model.specs.Proper.{IsPresent, IsKept, AreRising, IsLayer}
-use Rattle.feature_model.proofs.ListLemmas.{all-filter_map, any-all, all-map, all-take, length-take_most, all-numbered}
+use Rattle.feature_model.proofs.ListLemmas.{all-filter_map, any-all, all-map, all-take, all-weaker, length-take_most, all-numbered}
 
 -- Texts.
 
@@ -179,16 +179,12 @@ pub record IsChoice (entries : List Entry) (c : Choice) : Type 0 where
   pub zoom : (level : ℕ) → AllByRecursion (λ (e : Entry). e.zoom ≤ level) entries → c.zoom ≤ level
   pub layer : IsLayer c.layer
 
-all-first : {A : Type 0} (P Q : A → Type 0) (xs : List A) → AllByRecursion (λ x. P x × Q x) xs → AllByRecursion P xs
-all-first P Q [] h = tt
-all-first P Q (x ∷ xs) h = (h.0.0, all-first P Q xs h.1)
-
 choice_of-is : (entries : List Entry) (layer : ℤ) (found : List Match) (c : Choice) → IsLayer layer
     → ((P : Entry → Type 0) → AllByRecursion P entries → AllByRecursion (IsGood P entries) found) → AreRising (map (λ (m : Match). m.kept) found) → choice_of layer found ≡ Some c → IsChoice entries c
 choice_of-is entries layer [] c fine good rising e = absurd (cc e)
 choice_of-is entries layer (first ∷ more) c fine good rising e =
     let tags : List Kept = map (λ (m : Match). m.kept) (first ∷ more) in
-    let all = all-first (λ (m : Match). IsKept entries m.kept) (λ m. Unit {0}) (first ∷ more) (good (λ e. Unit {0}) (any-all entries)) in
+    let all = all-weaker (λ (m : Match). IsKept entries m.kept × Unit {0}) (λ (m : Match). IsKept entries m.kept) (first ∷ more) (λ m h. h.0) (good (λ e. Unit {0}) (any-all entries)) in
     subst (IsChoice entries) (same_Some _ c e) record {
       some = omega arith;
       few = length-take_most 15 tags;

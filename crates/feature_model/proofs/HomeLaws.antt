@@ -3,18 +3,10 @@ use Rattle.std.proofs.Common.{◌≡◌, ◌⊎◌, ℕ, ◌+◌, ◌<◌, ◌�
 use Rattle.std.specs.Prelude.{filter}
 use Rattle.std.specs.List.{enumerate_from, position_from}
 use Rattle.std.proofs.lemmas.Iterator.Adapters.{position_from-zero}
+use Rattle.std.proofs.lemmas.List.Elements.{filter_agree}
 use Rattle.std.proofs.lemmas.Bool.{cases_Bool, ne_eqb, eq-eqb}
 use Rattle.feature_model.specs.Points.{Point}
 use Rattle.feature_model.specs.Blocks.{JoinedBlock, begins_inside, blocks_of, home, is_home}
-
--- tests that agree on a list filter it alike
-filter-same : {A : Type 0} (p q : A → Bool) (xs : List A) → ((x : A) → p x ≡ q x) → filter p xs ≡ filter q xs
-filter-same p q [] same = refl
-filter-same p q (x ∷ xs) same = by_test (cases_Bool (q x)) (filter-same p q xs same)
-  where
-    by_test : (q x ≡ true) ⊎ (q x ≡ false) → filter p xs ≡ filter q xs → filter p (x ∷ xs) ≡ filter q (x ∷ xs)
-    by_test (inl e) more = rw (same x, e) (ap (λ ys. x ∷ ys) more)
-    by_test (inr e) more = rw (same x, e) more
 
 -- one filter behind another
 filter-twice : {A : Type 0} (p q r : A → Bool) (xs : List A) → ((x : A) → q x ≡ true → r x ≡ false) → ((x : A) → q x ≡ false → r x ≡ p x) → filter p (filter (λ x. not (q x)) xs) ≡ filter r xs
@@ -70,7 +62,7 @@ unfolding blocks_of block_at
 blocks-at n [] inner = refl
 blocks-at n (o ∷ outer) inner =
     let others = filter (λ ring. not (begins_inside o ring)) inner in
-    let here = filter-same (begins_inside o) (λ ring. is_home n (home_at n (o ∷ outer) ring)) inner (first-home n o outer) in
+    let here = filter_agree (begins_inside o) (λ ring. is_home n (home_at n (o ∷ outer) ring)) (first-home n o outer) inner in
     let later = map-from (block_at (home_at (n + 1) outer) others) (block_at (home_at n (o ∷ outer)) inner) (n + 1) outer
     (λ k x low. ap (λ (rings : List (List Point)). x ∷ rings) (filter-twice (λ ring. is_home k (home_at (n + 1) outer ring)) (begins_inside o) (λ ring. is_home k (home_at n (o ∷ outer) ring)) inner
     (λ ring e. no_later n k o outer ring low e) (λ ring e. same_later n k o outer ring e))) in
@@ -81,5 +73,5 @@ pub blocks-home : (outer inner : List (List Point)) → blocks_of outer inner �
 unfolding home_at block_at
 blocks-home outer inner = blocks-at 0 outer inner
     ∙ map-from (block_at (home_at 0 outer) inner) (λ (o : ℕ × List Point). o.1 ∷ filter (λ ring. is_home o.0 (home outer ring)) inner) 0 outer
-    (λ k x low. ap (λ (rings : List (List Point)). x ∷ rings) (filter-same (λ ring. is_home k (home_at 0 outer ring)) (λ ring. is_home k (home outer ring)) inner
-    (λ ring. ap (is_home k) (sym (position_from-zero (λ o. begins_inside o ring) outer)))))
+    (λ k x low. ap (λ (rings : List (List Point)). x ∷ rings) (filter_agree (λ ring. is_home k (home_at 0 outer ring)) (λ ring. is_home k (home outer ring))
+    (λ ring. ap (is_home k) (sym (position_from-zero (λ o. begins_inside o ring) outer))) inner))
