@@ -12,7 +12,7 @@ use Rattle.map_model.specs.Header.{HeadSettings, HeaderFields, magic_word, merca
 use Rattle.map_model.specs.Reader.{fixed, where_set}
 use Rattle.map_model.specs.TileReading.{has_flag, IsText}
 use Rattle.map_model.specs.HeaderReading.{HeaderKind, Header, string_at, intervals_at, head_at, flags_at, optional_at, version_at, projection_at, fields_at, header_length, fields_of, read_header, IsHeader, shown_header, ReadsHeader, ReadsMapHeader}
-use Rattle.map_model.proofs.SizeLemmas.{length-big_endian}
+use Rattle.mf_base.proofs.ByteLaws.{length-big_endian}
 use Rattle.map_model.proofs.PlacesAgain.{Again}
 use Rattle.map_model.proofs.RecordsAgain.{num, num-le, flag-num, has_flag-is, fixed_number-again, one_byte-again, where_set-again}
 use Rattle.map_model.proofs.HeaderPartsAgain.{string_at-again, tag_list_at-again, fixed-again, box_at-again, intervals_at-again}

@@ -1,7 +1,6 @@
 -- What is read as the flags, the optional fields, the version or the projection of a header is spelled so.
-use Rattle.std.proofs.Common.{◌≡◌, ℕ, ◌^◌, ◌<◌, List, [], ◌∷◌, ◌++◌, length, take, drop, refl, sym, ◌∙◌, subst, arith, true, false, Ok, Option, Some, None}
+use Rattle.std.proofs.Common.{◌≡◌, ℕ, ◌^◌, ◌<◌, List, [], ◌∷◌, ◌++◌, length, take, drop, refl, sym, ◌∙◌, subst, arith, false, Ok, Option, Some, None}
 use Rattle.std.specs.Prelude.{IfSome, is_some}
-use Rattle.std.specs.Str.{bytes_eq}
 use Rattle.std.proofs.lemmas.Bool.{eqb-true, not-true}
 use Rattle.std.proofs.lemmas.List.{length-drop, take_all}
 use Rattle.std.proofs.lemmas.Slice.Eq.{bytes_eq-Decides}
@@ -16,12 +15,10 @@ use Rattle.map_model.specs.Header.{mercator_word, be_signed}
 use Rattle.map_model.specs.Reader.{fixed}
 use Rattle.map_model.specs.TileReading.{has_flag, IsText, IsInRange}
 use Rattle.map_model.specs.HeaderReading.{HeaderKind, string_at, signed_32, flags_at, optional_at, version_at, projection_at}
-use Rattle.map_model.proofs.ReaderFound.{Takes, IsFound, Finds, AreSoManyBytes, drop-bytes, then, fixed-found, fixed_number-found, where_set-found}
+use Rattle.mf_base.proofs.ByteLaws.{drop-bytes}
+use Rattle.map_model.proofs.ReaderFound.{Takes, IsFound, Finds, AreSoManyBytes, then, fixed-found, fixed_number-found, where_set-found}
 use Rattle.map_model.proofs.RecordsFound.{byte-found, signed_32-within}
 use Rattle.map_model.proofs.HeaderPartsFound.{string_at-found, signed_field, number_field}
-
-pub bytes_same : (a b : List ℕ) → bytes_eq a b ≡ true → a ≡ b
-bytes_same a b e = (bytes_eq-Decides a b).0 e
 
 -- ---- flags and optional fields
 
@@ -171,7 +168,7 @@ projection_at-found bytes r small e =
     let right = bind_ok _ _ r word.2 in
     let a = fixed-found HeaderKind.short 2 bytes size.0 small size.1 in
     let b = string_at-found size.0.1 word.0 a.0.behind word.1 in
-    let is = bytes_same word.0.0 mercator_word (require_ok _ _ _ right.1) in
+    let is = (bytes_eq-Decides word.0.0 mercator_word).0 (require_ok _ _ _ right.1) in
     let spelt = number_field 2 size.0.0 a.1.1 (omega (arith, a.1.0)) ∙ take_all 2 size.0.0 (omega (arith, a.1.0)) in
     subst (λ (q : Unit {0} × List ℕ). IsProjection bytes q.1) (ok_is (tt, word.0.1) r right.2)
     record {

@@ -4,6 +4,7 @@ use Rattle.std.specs.Prelude.{nat_le, IsTrue, flat_map, zip, is_some}
 use Rattle.std.specs.List.{AllByRecursion}
 use Rattle.std.proofs.lemmas.Bool.{leb-true, and_parts}
 use Rattle.std.proofs.lemmas.List.{length-map, length-drop, length-take-le, take-take, take-append-drop}
+use Rattle.std.proofs.lemmas.Slice.Eq.{bytes_eq-Decides}
 use Rattle.mf_base.specs.Spelling.{IsBytes, big_endian}
 use Rattle.mf_base.specs.declared.place.Rect.{Rect}
 use Rattle.mf_base.specs.declared.tile.Interval.{Interval}
@@ -12,11 +13,12 @@ use Rattle.map_model.specs.Header.{HeadSettings, SubFile, HeaderFields, magic_wo
 use Rattle.map_model.specs.Reader.{placed, fixed_number}
 use Rattle.map_model.specs.TileReading.{has_flag}
 use Rattle.map_model.specs.HeaderReading.{HeaderKind, HeaderFault, Header, tag_list_at, box_at, intervals_at, head_at, flags_at, optional_at, version_at, projection_at, fields_at, value_alone, header_length, fields_of, read_header, FitsInterval, is_interval, IsHeader, shown_header, ReadsHeader, ReadsMapHeader}
-use Rattle.map_model.proofs.SizeLemmas.{length-big_endian}
-use Rattle.map_model.proofs.ReaderFound.{placed_ok, none_left, Takes, take-bytes, drop-bytes, then, fixed-found, fixed_number-found}
+use Rattle.mf_base.proofs.ByteLaws.{length-big_endian}
+use Rattle.mf_base.proofs.ByteLaws.{take-bytes, drop-bytes}
+use Rattle.map_model.proofs.ReaderFound.{placed_ok, none_left, Takes, then, fixed-found, fixed_number-found}
 use Rattle.map_model.proofs.RecordsFound.{below_4, flag_as}
 use Rattle.map_model.proofs.HeaderPartsFound.{IsIntervalOf, tag_list_at-found, box_at-found, intervals_at-found}
-use Rattle.map_model.proofs.HeaderFieldsFound.{bytes_same, AreOptions, IsProjection, flags_at-found, optional_at-found, version_at-found, projection_at-found}
+use Rattle.map_model.proofs.HeaderFieldsFound.{AreOptions, IsProjection, flags_at-found, optional_at-found, version_at-found, projection_at-found}
 
 -- ---- intervals and sub-files side by side
 
@@ -188,7 +190,7 @@ head_at-found total bytes r small e =
     let fits = bind_ok _ _ r n.2 in
     let a = fixed-found HeaderKind.short 20 bytes word.0 small word.1 in
     let b = fixed_number-found HeaderKind.short 4 word.0.1 n.0 a.0.behind n.1 in
-    let is = bytes_same word.0.0 magic_word (require_ok _ _ _ right.1) in
+    let is = (bytes_eq-Decides word.0.0 magic_word).0 (require_ok _ _ _ right.1) in
     let both = and_parts (nat_le n.0.0 5000000) (nat_le (24 + n.0.0) total) (require_ok _ _ _ fits.1) in
     subst (λ (q : ℕ × List ℕ). IsHead total bytes q.0 q.1) (ok_is n.0 r fits.2)
     record {

@@ -17,7 +17,7 @@ use Rattle.map_model.specs.Header.{SubFile, be_signed, box_bytes, tag_list_bytes
 use Rattle.map_model.specs.Reader.{fixed}
 use Rattle.map_model.specs.TileReading.{IsText}
 use Rattle.map_model.specs.HeaderReading.{HeaderKind, string_at, tag_name_at, tag_list_at, signed_32, rect_of_bytes, box_at, interval_of_bytes, is_interval, interval_at, intervals_at, IsTagName, AreTagNames, FitsInterval}
-use Rattle.map_model.proofs.SizeLemmas.{length-big_endian}
+use Rattle.mf_base.proofs.ByteLaws.{length-big_endian}
 use Rattle.map_model.proofs.PlacesAgain.{Again, times-again, and-true}
 use Rattle.map_model.proofs.RecordsAgain.{fixed_number-again}
 use Rattle.map_model.proofs.HeaderPartsFound.{IsIntervalOf}

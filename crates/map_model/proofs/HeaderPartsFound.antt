@@ -21,7 +21,8 @@ use Rattle.map_model.specs.Header.{SubFile, be_signed, box_bytes, tag_list_bytes
 use Rattle.map_model.specs.Reader.{with_rest}
 use Rattle.map_model.specs.TileReading.{IsText}
 use Rattle.map_model.specs.HeaderReading.{HeaderKind, length_of, string_at, tag_name_at, tag_list_at, signed_32, rect_of_bytes, box_at, interval_of_bytes, is_interval, interval_at, intervals_at, IsTagName, AreTagNames, FitsInterval}
-use Rattle.map_model.proofs.ReaderFound.{Takes, IsFound, Finds, then, drop-bytes, fixed-found, fixed_number-found, times-found}
+use Rattle.mf_base.proofs.ByteLaws.{drop-bytes}
+use Rattle.map_model.proofs.ReaderFound.{Takes, IsFound, Finds, then, fixed-found, fixed_number-found, times-found}
 use Rattle.map_model.proofs.PlacesFound.{unsigned-found, text_found}
 
 -- ---- strings

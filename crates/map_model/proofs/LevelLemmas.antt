@@ -7,6 +7,7 @@ use Rattle.std.proofs.lemmas.List.{length-map, map-append}
 use Rattle.std.proofs.lemmas.List.Sums.{length-filter}
 use Rattle.std.proofs.lemmas.List.Elements.{filter-append}
 use Rattle.std.proofs.lemmas.List.Folds.{flat_map-map}
+use Rattle.std.proofs.lemmas.Simd.{map-map}
 use Rattle.std.proofs.lemmas.Grind.{flat_map-append}
 use Rattle.mf_base.specs.Spelling.{vbe_unsigned}
 use Rattle.mf_base.specs.declared.place.Place.{Place}
@@ -72,7 +73,7 @@ filter-none p q apart (x ∷ xs) =
       | inr e ↦ rw (filter-miss q x xs e) (filter-none p q apart xs)
     ]
 
-flat_map_nothing : {A B : Type 0} (xs : List A) → flat_map {X = A} {A = B} (λ x. []) xs ≡ []
+pub flat_map_nothing : {A B : Type 0} (xs : List A) → flat_map {X = A} {A = B} (λ x. []) xs ≡ []
 flat_map_nothing [] = refl
 flat_map_nothing (x ∷ xs) = flat_map_nothing xs
 
@@ -192,10 +193,6 @@ listed-poi tags tile f e = ap (λ b. cond b (poi (shown_poi tags.poi (effective_
 listed-way : (tags : TagLists) (tile : TilePlace) (f : Feature) → is_poi f ≡ false → listed tags tile f ≡ way (shown_way tags.way (effective_zoom tile.interval f.zoom) (way_fields (tile_corner tile) (sub_tile_bits f tile) f))
 unfolding listed
 listed-way tags tile f e = ap (λ b. cond b (poi (shown_poi tags.poi (effective_zoom tile.interval f.zoom) (poi_fields f))) (way (shown_way tags.way (effective_zoom tile.interval f.zoom) (way_fields (tile_corner tile) (sub_tile_bits f tile) f)))) e
-
-map-map : {A B C : Type 0} (g : B → C) (f : A → B) (xs : List A) → map g (map f xs) ≡ map (λ x. g (f x)) xs
-map-map g f [] = refl
-map-map g f (x ∷ xs) = λ i. g (f x) ∷ map-map g f xs i
 
 -- features of one kind and one zoom, shown with that zoom
 module _ (tags : TagLists) (tile : TilePlace) (kind : Feature → Bool) (at_zoom : ℕ → Feature → Listed)

@@ -1,5 +1,5 @@
 -- What a tile tells is read again from its bytes.
-use Rattle.std.proofs.Common.{◌≡◌, ℕ, zero, suc, ◌+◌, ◌-◌, ◌^◌, ◌<◌, ◌≤◌, List, [], ◌∷◌, ◌++◌, length, refl, ap, ◌∙◌, arith, inl, inr, true, false, length-append, append_assoc}
+use Rattle.std.proofs.Common.{◌≡◌, ℕ, suc, ◌+◌, ◌-◌, ◌^◌, ◌<◌, ◌≤◌, List, [], ◌∷◌, ◌++◌, length, refl, ap, ◌∙◌, arith, inl, inr, true, false, length-append, append_assoc}
 use Rattle.std.specs.Prelude.{Bool, ◌&&◌, flat_map, cond, ℤ, pos, negsuc, neg_ℤ, nat_abs, ◌+ℤ◌, ◌-ℤ◌, nat_lt, Ok, leb}
 use Rattle.std.proofs.lemmas.Bool.{cases_lt, lt-ltb, le-ltb, le-leb, leb-true}
 use Rattle.std.proofs.lemmas.List.{drop_at, take_at}
@@ -12,6 +12,7 @@ use Rattle.mf_base.specs.declared.place.Place.{Place}
 use Rattle.mf_base.specs.Ranges.{is_signed_32}
 use Rattle.feature_model.specs.Features.{Block}
 use Rattle.feature_model.specs.Inside.{Ring}
+use Rattle.mf_base.proofs.SignLaws.{nat_abs-neg}
 use Rattle.map_model.specs.Tiles.{origin}
 use Rattle.map_model.specs.Layout.{step, step_bytes, steps_from, ring_steps, coordinate_bytes, ring_bytes, block_bytes}
 use Rattle.map_model.specs.Reader.{Read, times}
@@ -54,11 +55,6 @@ and-true false e = e
 pub nat_abs-in_32 : (z : ℤ) → is_signed_32 z ≡ true → nat_abs z ≤ 2 ^ 31
 nat_abs-in_32 (pos n) e = let le = leb-true n 2147483647 e in omega (arith, le)
 nat_abs-in_32 (negsuc n) e = let le = leb-true n 2147483647 (and-true (leb n 2147483647) e) in omega (arith, le)
-
-nat_abs-neg : (z : ℤ) → nat_abs (neg_ℤ z) ≡ nat_abs z
-nat_abs-neg (pos zero) = refl
-nat_abs-neg (pos (suc n)) = refl
-nat_abs-neg (negsuc n) = refl
 
 nat_abs-sub : (a b : ℕ) → nat_abs (cond (nat_lt a (suc b)) (negsuc (suc b - suc a)) (pos (a - suc b))) ≤ a + suc b
 nat_abs-sub a b = elim (cases_lt a (suc b)) [

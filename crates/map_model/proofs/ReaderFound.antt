@@ -2,11 +2,12 @@
 use Rattle.std.proofs.Common.{◌≡◌, inl, inr, ◌+◌, ℕ, zero, suc, ◌^◌, ◌<◌, ◌≤◌, List, [], ◌∷◌, ◌++◌, length, take, drop, append-nil, refl, sym, ap, ◌∙◌, subst, arith, true, false, append_assoc, Result, Ok, Err, Some, None}
 use Rattle.std.specs.Prelude.{Bool, nat_lt, flat_map, IfSome, is_some}
 use Rattle.std.specs.List.{AllByRecursion, AllZip}
-use Rattle.std.proofs.lemmas.Bool.{ltb-false, cases_lt}
-use Rattle.std.proofs.lemmas.List.{take-append-drop, get_or-drop, get_or-take, get_or_past, length-take, length-take-le}
+use Rattle.std.proofs.lemmas.Bool.{ltb-false}
+use Rattle.std.proofs.lemmas.List.{length-append, take-append-drop, length-take-le}
 use Rattle.byteorder.specs.Endian.{big_number}
 use Rattle.byteorder.specs.Numbers.{big_from-lt, big_from-take}
 use Rattle.mf_base.specs.Spelling.{IsBytes, big_endian}
+use Rattle.mf_base.proofs.ByteLaws.{take-bytes, drop-bytes}
 use Rattle.mf_base.proofs.BigBytes.{big_bytes-big_number}
 use Rattle.mf_base.proofs.StepLaws.{err_is_no_ok, bind_ok, chosen, ok_is}
 use Rattle.map_model.specs.Layout.{optional}
@@ -27,15 +28,9 @@ Finds {Kind} {X} read spell Fits = (bytes : List ℕ) (r : X × List ℕ) → Is
 
 -- ---- parts of bytes
 
-pub drop-bytes : (k : ℕ) (bytes : List ℕ) → IsBytes bytes → IsBytes (drop k bytes)
-drop-bytes k bytes small i = rw (get_or-drop k bytes i 0) (small (k + i))
-
-pub take-bytes : (k : ℕ) (bytes : List ℕ) → IsBytes bytes → IsBytes (take k bytes)
-take-bytes k bytes small i =
-    elim (cases_lt i k) [
-      | inl lt ↦ rw (get_or-take k bytes i 0 lt) (small i)
-      | inr le ↦ rw (get_or_past (take k bytes) i 0 (omega (arith, length-take k bytes))) (omega arith)
-    ]
+-- how many bytes stand in front of so many
+pub part_size : (n : ℕ) (bytes part rest : List ℕ) → bytes ≡ part ++ rest → n + length rest ≡ length bytes → n ≡ length part
+part_size n bytes part rest spelt size = omega (arith, ap length spelt, size, length-append part rest)
 
 -- nothing is taken
 pub nothing : (bytes : List ℕ) → IsBytes bytes → Takes bytes [] bytes

@@ -6,7 +6,7 @@ use Rattle.std.specs.Int.{w8, w16, w32}
 use Rattle.std.proofs.lemmas.Bool.{lt-ltb, le-ltb, le-leb, leb-true, eq-eqb}
 use Rattle.std.proofs.lemmas.List.{length-map, drop_at, take_at}
 use Rattle.std.proofs.lemmas.Int.{to_z-of_z}
-use Rattle.std.proofs.Math.IntN.{+ℤ_comm, +ℤ-neg_ℤ_cancel}
+use Rattle.std.proofs.Math.IntN.{+ℤ_idr, +ℤ-neg_ℤ_cancel}
 use Rattle.byteorder.specs.Endian.{big_number}
 use Rattle.byteorder.specs.Numbers.{big_number-reads_back}
 use Rattle.mf_base.specs.Spelling.{vbe_unsigned, vbe_signed, string, big_endian}
@@ -28,7 +28,7 @@ use Rattle.map_model.proofs.LevelLemmas.{levels-shown}
 use Rattle.map_model.specs.Listed.{TagLists, Listed, listed, shown_levels, tag_kind, tag_at}
 use Rattle.map_model.specs.Reader.{Read, fixed_number, times, each, where_set}
 use Rattle.map_model.specs.TileReading.{TileKind, number, text_at, ranged, layer_at, id_at, value_at, kept_at, tags_at, has_flag, poi_at, block_at, block_count_at, blocks_at, first_place_at, two_signed, label_and_blocks_at, way_body_at, way_at, counts_at, level_of, levels_at, read_tile_from, read_tile, ReadsTile, IsLevel, SpellsLevels, IsText, IsInRange, IsKeptOf, IsPoi, IsBlock, IsWay}
-use Rattle.map_model.proofs.SizeLemmas.{length-big_endian}
+use Rattle.mf_base.proofs.ByteLaws.{length-big_endian}
 use Rattle.map_model.proofs.PlacesAgain.{Again, number-again, signed-again, count_from-again, text_at-again, ranged-again, place_from-again, block_at-again, times-again, and-true, after_first, coordinates-split, nat_abs-step}
 
 -- ---- fixed widths
@@ -158,14 +158,7 @@ where_set-again read bytes Fits again (Some x) h rest = rw (again x h rest) refl
 
 height-again : (n : ℤ) → is_signed_32 n ≡ true → Again (ranged (pos 0)) (vbe_signed n) n
 unfolding Again
-height-again n h rest = ap (λ z. ranged (pos 0) (vbe_signed z ++ rest)) (sym (minus_zero n)) ∙ ranged-again (pos 0) n refl h rest
-  where
-    minus_zero : (z : ℤ) → z -ℤ pos 0 ≡ z
-    minus_zero z = +ℤ_comm z (pos 0) ∙ zero_plus z
-      where
-        zero_plus : (z : ℤ) → pos 0 +ℤ z ≡ z
-        zero_plus (pos n) = ap pos (omega arith)
-        zero_plus (negsuc n) = rw (lt-ltb 0 (suc n) (omega arith)) (ap negsuc (omega arith))
+height-again n h rest = ap (λ z. ranged (pos 0) (vbe_signed z ++ rest)) (sym (+ℤ_idr n)) ∙ ranged-again (pos 0) n refl h rest
 
 -- ---- POI
 

@@ -8,18 +8,15 @@ use Rattle.std.proofs.lemmas.Slice.Zip.{length-zip}
 use Rattle.std.proofs.lemmas.List.FromFn.{length-enumerate_from}
 use Rattle.std.proofs.lemmas.List.Concat.{length-flat_map}
 use Rattle.byteorder.specs.Endian.{big_number}
-use Rattle.byteorder.specs.Numbers.{length-bytes_high_first, big_number-reads_back}
+use Rattle.byteorder.specs.Numbers.{big_number-reads_back}
 use Rattle.mf_base.specs.Spelling.{big_endian}
 use Rattle.mf_base.specs.declared.place.Rect.{Rect}
 use Rattle.mf_base.specs.declared.tile.Interval.{Interval}
+pub use Rattle.mf_base.proofs.ByteLaws.{length-big_endian}
 use Rattle.map_model.specs.SubFile.{TileContent, entry_bytes, offset_of, index_bytes, sub_file_of, sub_file_size}
 use Rattle.map_model.specs.Listed.{TagLists}
 use Rattle.map_model.specs.Header.{HeadSettings, SubFile, HeaderFields, box_bytes, interval_bytes, middle_bytes, fields_bytes, header_fields_bytes, written_header, header_size, header_bytes}
 use Rattle.map_model.specs.Listing.{index_entry_of}
-
-pub length-big_endian : (width n : ℕ) → length (big_endian width n) ≡ width
-unfolding big_endian
-length-big_endian width n = length-bytes_high_first width n
 
 fives : (all : List TileContent) (xs : List (ℕ × TileContent)) → length (flat_map (λ at. entry_bytes at.1.water (offset_of all at.0)) xs) ≡ 5 * length xs
 fives all [] = refl

@@ -1,8 +1,8 @@
 -- The tiles of a rectangle by their places, the tiles of two rectangles, and the texts of entries.
-use Rattle.std.proofs.Common.{◌≡◌, ◌⊎◌, ℕ, zero, suc, ◌+◌, ◌-◌, ◌*◌, ◌<◌, ◌≤◌, List, [], ◌∷◌, ◌++◌, map, length, refl, sym, ap, ◌∙◌, arith, inl, inr, true, false, Some, None, length-append}
-use Rattle.std.specs.Prelude.{Bool, not, ◌&&◌, ◌||◌, ◌==◌, max, min, cond, IsTrue, flat_map, slice_get, leb, unwrap_or, ◌↔◌}
+use Rattle.std.proofs.Common.{◌≡◌, ℕ, zero, suc, ◌+◌, ◌-◌, ◌*◌, ◌<◌, ◌≤◌, List, [], ◌∷◌, ◌++◌, map, length, refl, sym, ap, ◌∙◌, arith, true, false, Some, None, length-append}
+use Rattle.std.specs.Prelude.{Bool, not, ◌&&◌, ◌==◌, max, min, cond, IsTrue, flat_map, slice_get, leb, unwrap_or, ◌↔◌}
 use Rattle.std.specs.List.{range_with_len, position_or_len}
-use Rattle.std.proofs.lemmas.Bool.{le-leb, leb-true, ne_eqb, eqb-false}
+use Rattle.std.proofs.lemmas.Bool.{le-leb, leb-true, ne_eqb, eqb-false, and_parts, or_parts, not-true}
 use Rattle.std.proofs.lemmas.List.{length-map, take_at}
 use Rattle.std.proofs.Math.Seq.{drop-append-add}
 use Rattle.std.proofs.lemmas.List.FromFn.{length-range_with_len}
@@ -72,15 +72,11 @@ record In (t : TileRect) (x y : ℕ) : Type 0 where
   north : t.first_y ≤ y
   south : y ≤ t.last_y
 
-and-both : (a b : Bool) → IsTrue (a && b) → IsTrue a × IsTrue b
-and-both true b h = (refl, h)
-and-both false b h = absurd (cc h)
-
 within : (t : TileRect) (x y : ℕ) → IsTrue (has_tile t x y) → In t x y
 within t x y h =
-    let abc = and-both (leb t.first_x x && leb x t.last_x && leb t.first_y y) (leb y t.last_y) h in
-    let ab = and-both (leb t.first_x x && leb x t.last_x) (leb t.first_y y) abc.0 in
-    let a = and-both (leb t.first_x x) (leb x t.last_x) ab.0 in
+    let abc = and_parts (leb t.first_x x && leb x t.last_x && leb t.first_y y) (leb y t.last_y) h in
+    let ab = and_parts (leb t.first_x x && leb x t.last_x) (leb t.first_y y) abc.0 in
+    let a = and_parts (leb t.first_x x) (leb x t.last_x) ab.0 in
     record { west = leb-true t.first_x x a.0; east = leb-true x t.last_x a.1; north = leb-true t.first_y y ab.1; south = leb-true y t.last_y abc.1 }
 
 lies : (t : TileRect) (x y : ℕ) → In t x y → IsTrue (has_tile t x y)
@@ -150,7 +146,7 @@ pub common-some : (a b t : TileRect) → common a b ≡ Some t → IsTrue (has_t
 unfolding common
 common-some a b t e =
     let is = picked (leb (both_of a b).first_x (both_of a b).last_x && leb (both_of a b).first_y (both_of a b).last_y) (both_of a b) t e in
-    let sides = and-both (leb (both_of a b).first_x (both_of a b).last_x) (leb (both_of a b).first_y (both_of a b).last_y) is.0 in
+    let sides = and_parts (leb (both_of a b).first_x (both_of a b).last_x) (leb (both_of a b).first_y (both_of a b).last_y) is.0 in
     let wide = leb-true (both_of a b).first_x (both_of a b).last_x sides.0 in
     let high = leb-true (both_of a b).first_y (both_of a b).last_y sides.1 in
     rw (sym is.1) (lies (both_of a b) (both_of a b).first_x (both_of a b).first_y (record { west = omega arith; east = wide; north = omega arith; south = high }))
@@ -173,24 +169,16 @@ pub ruleset tile_laws = (tiles-length, tile-at_place, common-some, common-none)
 
 -- ---- texts of entries
 
-or_false : (a b : Bool) → (a || b) ≡ false → (a ≡ false) × (b ≡ false)
-or_false true b h = absurd (cc h)
-or_false false b h = (refl, h)
-
-is_not : (b : Bool) → IsTrue (not b) → b ≡ false
-is_not true h = absurd (cc h)
-is_not false h = refl
-
 first_equals : (key value : Text) → has_byte 61 key ≡ false → position_or_len (λ b. b == 61) (key ++ 61 ∷ value) ≡ length key
 first_equals [] value none = refl
 first_equals (k ∷ key) value none =
-    let parts = or_false (61 == k) (has_byte 61 key) none in
+    let parts = or_parts (61 == k) (has_byte 61 key) none in
     rw (ne_eqb k 61 (λ same. eqb-false 61 k parts.0 (sym same)), first_equals key value parts.1) (omega arith)
 
 pub entry-key : (e : Entry) → IsTrue (not (has_byte 61 e.key)) → tag_key (entry_text e) ≡ e.key
-entry-key e none = rw (first_equals e.key e.value (is_not (has_byte 61 e.key) none)) (take_at e.key (61 ∷ e.value) (length e.key) refl)
+entry-key e none = rw (first_equals e.key e.value (not-true (has_byte 61 e.key) none)) (take_at e.key (61 ∷ e.value) (length e.key) refl)
 
 pub entry-value : (e : Entry) → IsTrue (not (has_byte 61 e.key)) → tag_value (entry_text e) ≡ e.value
-entry-value e none = rw (first_equals e.key e.value (is_not (has_byte 61 e.key) none)) (drop-append-add e.key (61 ∷ e.value) 1)
+entry-value e none = rw (first_equals e.key e.value (not-true (has_byte 61 e.key) none)) (drop-append-add e.key (61 ∷ e.value) 1)
 
 pub ruleset entry_laws = (entry-key, entry-value)

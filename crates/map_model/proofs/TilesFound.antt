@@ -1,5 +1,5 @@
 -- What is read as a tile is spelled so.
-use Rattle.std.proofs.Common.{◌≡◌, ℕ, suc, ◌+◌, ◌^◌, ◌<◌, List, [], ◌∷◌, ◌++◌, map, length, refl, sym, ap, ◌∙◌, subst, arith, length-append, Ok}
+use Rattle.std.proofs.Common.{◌≡◌, ℕ, suc, ◌+◌, ◌^◌, ◌<◌, List, [], ◌∷◌, ◌++◌, map, length, refl, sym, ap, ◌∙◌, subst, Ok}
 use Rattle.std.specs.Prelude.{flat_map, zip}
 use Rattle.std.specs.List.{AllByRecursion, AllZip}
 use Rattle.std.proofs.lemmas.Bool.{eqb-true}
@@ -14,7 +14,7 @@ use Rattle.map_model.specs.Layout.{PoiFields, WayFields, Level, poi_fields_bytes
 use Rattle.map_model.specs.Listed.{TagLists, Listed, shown_levels}
 use Rattle.map_model.specs.Reader.{times, each}
 use Rattle.map_model.specs.TileReading.{number, poi_at, way_at, counts_at, level_of, levels_at, shown_at, read_tile_from, read_tile, IsInRange, IsPoi, IsWay, IsLevel, SpellsLevels, ReadsTile}
-use Rattle.map_model.proofs.ReaderFound.{placed_ok, none_left, Takes, IsFound, Finds, then, times-found, each-found}
+use Rattle.map_model.proofs.ReaderFound.{placed_ok, none_left, Takes, IsFound, Finds, then, times-found, each-found, part_size}
 use Rattle.map_model.proofs.PlacesFound.{number-found}
 use Rattle.map_model.proofs.RecordsFound.{poi_at-found}
 use Rattle.map_model.proofs.WaysFound.{way_at-found}
@@ -72,9 +72,6 @@ are_levels names corner (c ∷ counts) (p ∷ pois) (w ∷ ways) few hp hw =
     }
 
 -- ---- the tile
-
-part_size : (n : ℕ) (bytes part rest : List ℕ) → bytes ≡ part ++ rest → n + length rest ≡ length bytes → n ≡ length part
-part_size n bytes part rest spelt size = omega (arith, ap length spelt, size, length-append part rest)
 
 -- the parts of a tile as they are read, one after the other
 record TileParts (names : TagLists) (interval : Interval) (corner : Place) (bytes : List ℕ) (levels : List Level) : Type 0 where

@@ -1,5 +1,5 @@
 -- What is read as a way is spelled so.
-use Rattle.std.proofs.Common.{◌≡◌, ℕ, ◌+◌, ◌%◌, ◌^◌, ◌<◌, ◌≤◌, List, [], ◌∷◌, ◌++◌, length, refl, sym, ap, ◌∙◌, subst, arith, true, false, length-append, append_assoc}
+use Rattle.std.proofs.Common.{◌≡◌, ℕ, ◌+◌, ◌%◌, ◌^◌, ◌<◌, ◌≤◌, List, [], ◌∷◌, ◌++◌, length, refl, sym, ap, ◌∙◌, subst, arith, true, false, append_assoc}
 use Rattle.std.specs.Prelude.{Bool, ⊤, flat_map, cond, ℤ, Ok, Some, None, Option, is_some, IfSome}
 use Rattle.std.specs.List.{AllByRecursion}
 use Rattle.std.proofs.lemmas.Bool.{eqb-true}
@@ -11,7 +11,7 @@ use Rattle.feature_model.specs.Choice.{Kept}
 use Rattle.map_model.specs.Layout.{WayFields, optional, step, step_bytes, first_of_blocks, block_bytes, way_flags, way_body_bytes, way_fields_bytes, sized}
 use Rattle.map_model.specs.Reader.{fixed_number, where_set}
 use Rattle.map_model.specs.TileReading.{TileKind, layer_at, tags_at, text_at, place_from, has_flag, block_at, block_count_at, blocks_at, first_place_at, two_signed, label_and_blocks_at, way_body_at, way_at, IsText, IsInRange, IsBlock, IsWay}
-use Rattle.map_model.proofs.ReaderFound.{Takes, IsFound, Finds, nothing, then, fixed_number-found, times-found, where_set-found}
+use Rattle.map_model.proofs.ReaderFound.{Takes, IsFound, Finds, nothing, then, fixed_number-found, times-found, where_set-found, part_size}
 use Rattle.map_model.proofs.PlacesFound.{number-found, signed-found, count_from-found, text_at-found, place_from-found, block_at-found}
 use Rattle.map_model.proofs.RecordsFound.{below_4, byte-found, layered, flag_as}
 use Rattle.map_model.proofs.PlacesAgain.{Again}
@@ -236,8 +236,5 @@ way_at-found names corner hc bytes r small e =
     let b = way_body_at-found names corner hc told.0.1 way.0 a.0.behind way.1 in
     let body = way_body_bytes corner way.0.0 in
     let size = eqb-true (told.0.0 + length way.0.1) (length told.0.1) (require_ok _ _ _ fits.1) in
-    let many : told.0.0 ≡ length body = sized_as told.0.0 body way.0.1 (size ∙ ap length b.0.spelt) in
+    let many : told.0.0 ≡ length body = part_size told.0.0 told.0.1 body way.0.1 b.0.spelt size in
     subst (IsFound (way_fields_bytes corner) (IsWay names) bytes) (ok_is way.0 r fits.2) (then (subst (λ n. Takes bytes (vbe_unsigned n) told.0.1) many a.0) b.0, b.1)
-  where
-    sized_as : (n : ℕ) (part rest : List ℕ) → n + length rest ≡ length (part ++ rest) → n ≡ length part
-    sized_as n part rest e = omega (arith, e, length-append part rest)

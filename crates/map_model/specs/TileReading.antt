@@ -48,10 +48,11 @@ TileFault = FaultAt TileKind
 
 -- ---- Numbers, texts, places
 
--- an unsigned and a signed VBE number
+-- an unsigned VBE number
 unfoldable pub number : List ℕ → Read TileKind ℕ
 number bytes = or_stop vbe bytes (with_rest bytes (unsigned_front bytes))
 
+-- a signed VBE number
 unfoldable pub signed : List ℕ → Read TileKind ℤ
 signed bytes = or_stop vbe bytes (with_rest bytes (signed_front bytes))
 
