@@ -1,6 +1,7 @@
 -- A tile of features that stand for POIs.
 use Rattle.std.proofs.Common.{◌≡◌, ℕ, List, [], ◌∷◌, ◌++◌, map, refl, ap, ◌∙◌, true, false, append-nil}
 use Rattle.std.specs.Prelude.{Bool, filter, flat_map, ◌==◌, cond, not}
+use Rattle.mf_base.proofs.ListLaws.{map-same}
 use Rattle.mf_base.specs.declared.place.Place.{Place}
 use Rattle.mf_base.specs.declared.tile.Interval.{Interval}
 use Rattle.mf_base.specs.declared.tile.TilePlace.{TilePlace}
@@ -43,10 +44,6 @@ same-level corner tile pois fs h z =
     let ps = ap (λ l. map poi_fields (of_zoom tile.interval z l)) (only-pois pois fs h) ∙ same-fields tile.interval z pois fs h in
     let ws = ap (λ l. map (λ f. way_fields corner (sub_tile_bits f tile) f) (of_zoom tile.interval z l)) (no-ways pois fs h) in
     λ i. record { pois = ps i; ways = ws i }
-
-map-same : {A B : Type 0} (f g : A → B) → ((x : A) → f x ≡ g x) → (xs : List A) → map f xs ≡ map g xs
-map-same f g e [] = refl
-map-same f g e (x ∷ xs) = λ i. e x i ∷ map-same f g e xs i
 
 -- their tile is that of the POIs
 pub tile-of_first : (tile : TilePlace) (pois : List FirstPoi) (fs : List Feature) → StandFor pois fs → tile_bytes tile fs ≡ first_tile_bytes tile.interval (tile_corner tile) pois

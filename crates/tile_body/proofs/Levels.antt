@@ -9,6 +9,7 @@ use Rattle.std.proofs.lemmas.List.Folds.{flat_map-map}
 use Rattle.mf_base.specs.Spelling.{vbe_unsigned}
 use Rattle.mf_base.specs.declared.place.Place.{Place}
 use Rattle.mf_base.specs.declared.tile.Interval.{Interval}
+use Rattle.map_model.proofs.LevelLemmas.{flat_map_nothing}
 use Rattle.map_model.specs.Tiles.{effective_zoom, zooms}
 use Rattle.map_model.specs.Layout.{Level, poi_fields_bytes, level_count_bytes}
 use Rattle.tile_body.specs.declared.first_tile.FirstPoi.{FirstPoi}
@@ -73,11 +74,7 @@ levels-first corner interval top p pois (suc n) (suc k) z less e h =
 levels-all : (corner : Place) (interval : Interval) (z k top : ℕ) (pois : List FirstPoi) → top < z + k → RiseFrom interval z top pois
     → flat_map (λ y. bytes_of corner (at_zoom interval y pois)) (range_with_len z k) ≡ pois_bytes corner pois
 unfolding bytes_of pois_bytes
-levels-all corner interval z k top [] less h = nothing (range_with_len z k)
-  where
-    nothing : (ys : List ℕ) → flat_map {X = ℕ} {A = ℕ} (λ y. []) ys ≡ []
-    nothing [] = refl
-    nothing (y ∷ ys) = nothing ys
+levels-all corner interval z k top [] less h = flat_map_nothing (range_with_len z k)
 levels-all corner interval z k top (p ∷ pois) less h =
     let e = effective_zoom interval p.zoom in
     let at : effective_zoom interval p.zoom ≡ z + (effective_zoom interval p.zoom - z) = omega (arith, h.0) in

@@ -1,5 +1,5 @@
 -- The bytes of one POI.
-use Rattle.std.proofs.Common.{◌≡◌, ℕ, suc, ◌+◌, ◌*◌, ◌/◌, ◌^◌, ◌<◌, ◌≤◌, List, [], ◌∷◌, ◌++◌, length, arith, length-append, ◌-ℤ◌, nat_abs, inl, inr, append_assoc, append-nil, ap, ◌∙◌, sym}
+use Rattle.std.proofs.Common.{◌≡◌, ℕ, suc, ◌+◌, ◌*◌, ◌/◌, ◌^◌, ◌<◌, ◌≤◌, [], ◌∷◌, ◌++◌, length, arith, length-append, ◌-ℤ◌, nat_abs, inl, inr, append_assoc, append-nil, ap, ◌∙◌, sym}
 use Rattle.std.proofs.lemmas.Bool.{cases_lt}
 use Rattle.mf_base.specs.Spelling.{vbe, vbe_within, vbe_signed, sign_bit}
 use Rattle.mf_base.specs.Buffer.{Buffer, AppendsTo}
@@ -51,6 +51,3 @@ puts-poi first second third last corner p lat lon tag =
     let bytes : (((first.bytes ++ a) ++ b) ++ 0x51 ∷ 0x00 ∷ 0x00 ∷ []) ≡ first.bytes ++ poi_fields_bytes corner (first_poi p) =
     ap (λ l. l ++ 0x51 ∷ 0x00 ∷ 0x00 ∷ []) (append_assoc first.bytes a b) ∙ append_assoc first.bytes (a ++ b) (0x51 ∷ 0x00 ∷ 0x00 ∷ []) ∙ ap (λ l. first.bytes ++ l) (sym (poi-is corner p)) in
     rw (tag, lon, lat) (λ i. record { bytes = bytes i; capacity = first.capacity })
-
-pub puts-most : (first next : Buffer) (bytes : List ℕ) (n : ℕ) → AppendsTo first next bytes → length bytes ≤ n → length next.bytes ≤ length first.bytes + n
-puts-most first next bytes n put short = rw put (omega (arith, length-append first.bytes bytes, short))

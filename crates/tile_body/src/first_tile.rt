@@ -31,7 +31,7 @@ const FIRST_TAG: [u8; 3] = [0x51, 0x00, 0x00];
 pub fn put_pois(out: &mut OutBuf, pois: &[FirstPoi], interval: &Interval, corner: Place)
     requires members { AreMembers interval.now pois.now }
     requires zooms { (interval.now.min ≤ interval.now.max) × (interval.now.max ≤ 21) }
-    requires room { HasRoom out.old (32 * length pois.now + 512) }
+    requires room { HasRoom out.old (13 * length pois.now + 460) }
     ensures tile { (tile : TilePlace) (fs : List Feature) → tile.interval ≡ interval.now → tile_corner tile ≡ corner → StandFor pois.now fs → AppendsTo out.old out.new (tile_bytes tile fs) }
     ensures appends { AppendsTo out.old out.new (first_tile_bytes interval.now corner pois.now) }
     ensures most { length out.new.bytes ≤ length out.old.bytes + (13 * length pois.now + 450) }
@@ -40,7 +40,7 @@ pub fn put_pois(out: &mut OutBuf, pois: &[FirstPoi], interval: &Interval, corner
         return;
     }
     // So few POIs take so few bytes that an unsigned VBE number tells how many.
-    prove!(pois.len() <= out.spare() / 32);
+    prove!(pois.len() <= out.spare() / 13);
     let size = put_zoom_table(out, pois, interval, corner);
     put_vbe_u(out, size);
     put_all(out, pois, corner);
@@ -146,8 +146,8 @@ mod tests {
     // The tile of a map of one bench at (0, 0).
     #[test]
     fn one_bench(rt: HostRuntime) -> Result<(), Fail> {
-        let mut out = OutBuf::new(rt.alloc(), 600)?;
-        assert!(rt; out.spare() >= 544);
+        let mut out = OutBuf::new(rt.alloc(), 473)?;
+        assert!(rt; out.spare() >= 473);
         let corner = Place {
             lat: 85051128,
             lon: -180000000,
@@ -172,8 +172,8 @@ mod tests {
     // The steps of -1, 64 and -64 are spelled as in the format.
     #[test]
     fn two_zooms(rt: HostRuntime) -> Result<(), Fail> {
-        let mut out = OutBuf::new(rt.alloc(), 700)?;
-        assert!(rt; out.spare() >= 608);
+        let mut out = OutBuf::new(rt.alloc(), 499)?;
+        assert!(rt; out.spare() >= 499);
         let interval = Interval {
             base: 4,
             min: 3,
@@ -195,8 +195,8 @@ mod tests {
     // Zoom 5 is below the minimum, so its effective zoom is 8; and nothing is put where there is no POI.
     #[test]
     fn below_the_minimum(rt: HostRuntime) -> Result<(), Fail> {
-        let mut out = OutBuf::new(rt.alloc(), 700)?;
-        assert!(rt; out.spare() >= 576);
+        let mut out = OutBuf::new(rt.alloc(), 486)?;
+        assert!(rt; out.spare() >= 486);
         let interval = Interval {
             base: 10,
             min: 8,
@@ -204,7 +204,7 @@ mod tests {
         };
         put_pois(&mut out, &[], &interval, Place { lat: 0, lon: 0 });
         assert!(rt; out.bytes().is_empty());
-        assert!(rt; out.spare() >= 576);
+        assert!(rt; out.spare() >= 486);
         put_pois(
             &mut out,
             &[poi(0, 0, 5), poi(0, 1, 8)],

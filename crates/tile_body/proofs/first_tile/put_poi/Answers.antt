@@ -1,7 +1,8 @@
 use Rattle.std.proofs.Common.{rules, ◌<◌, ◌^◌, ◌-ℤ◌, nat_abs}
 use Rattle.mf_base.specs.Buffer.{AppendsTo}
 use Rattle.mf_base.specs.Spelling.{vbe_signed}
-use Rattle.tile_body.proofs.PoiBytes.{puts-poi, puts-most, length-poi-most}
+use Rattle.mf_base.proofs.Written.{puts-most}
+use Rattle.tile_body.proofs.PoiBytes.{puts-poi, length-poi-most}
 use Rattle.tile_body.proofs.first_tile.put_poi.Goals as goal
 
 pub returns-clause-appends : goal.returns-clause-appends
