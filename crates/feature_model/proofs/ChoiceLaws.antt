@@ -5,6 +5,7 @@ use Rattle.std.specs.Int.{int_min, int_max}
 use Rattle.std.specs.List.{AllByRecursion, enumerate_from, cons_option}
 use Rattle.std.proofs.Math.Nat.{min-le_left}
 use Rattle.std.proofs.lemmas.Bool.{cases_Bool, cases_lt, le-leb, lt-ltb, le-ltb, leb-true, and_parts}
+use Rattle.std.proofs.lemmas.List.{length-take}
 use Rattle.std.proofs.lemmas.Option.{same_Some, slice_get_within}
 use Rattle.mf_base.specs.Texts.{Text}
 use Rattle.mf_base.specs.Tags.{Tags, value_of, present_text, text_of}
@@ -13,7 +14,7 @@ use Rattle.mf_base.specs.Ranges.{within, lies_within}
 use Rattle.feature_model.specs.Mapping.{IsOfKind, Entry, ValueKind, KeptValue, value_kind, read_by, kept_by}
 use Rattle.feature_model.specs.Choice.{Kept, Match, match_of, matches, layer_of, Choice, choice_of, choice}
 use Rattle.feature_model.specs.Proper.{IsPresent, IsKept, AreRising, IsLayer}
-use Rattle.feature_model.proofs.ListLemmas.{all-filter_map, any-all, all-map, all-take, all-weaker, length-take_most, all-numbered}
+use Rattle.feature_model.proofs.ListLemmas.{all-filter_map, any-all, all-map, all-take, all-weaker, all-numbered}
 
 -- Texts.
 
@@ -187,7 +188,7 @@ choice_of-is entries layer (first ∷ more) c fine good rising e =
     let all = all-weaker (λ (m : Match). IsKept entries m.kept × Unit {0}) (λ (m : Match). IsKept entries m.kept) (first ∷ more) (λ m h. h.0) (good (λ e. Unit {0}) (any-all entries)) in
     subst (IsChoice entries) (same_Some _ c e) record {
       some = omega arith;
-      few = length-take_most 15 tags;
+      few = omega (arith, length-take 15 tags);
       kept = all-take (IsKept entries) 15 tags (all-map (IsKept entries) (λ (m : Match). m.kept) (first ∷ more) all);
       rising = take-rising 15 tags rising;
       zoom = λ level all. let a = fold-below first.entry.zoom more in let b = (good (λ (e : Entry). e.zoom ≤ level) all).0.1 in omega (arith, a, b);

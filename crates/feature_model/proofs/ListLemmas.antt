@@ -1,5 +1,5 @@
 -- What holds of all items of a list.
-use Rattle.std.proofs.Common.{◌≡◌, ℕ, zero, suc, ◌+◌, ◌≤◌, List, [], ◌∷◌, map, length, take, Option, Some, None, refl, sym, ap, ◌∙◌, subst, arith}
+use Rattle.std.proofs.Common.{◌≡◌, ℕ, zero, suc, ◌+◌, List, [], ◌∷◌, map, length, take, Option, Some, None, refl, sym, ap, ◌∙◌, subst, arith}
 use Rattle.std.specs.Prelude.{filter_map, slice_get}
 use Rattle.std.specs.List.{AllByRecursion, enumerate_from, cons_option}
 
@@ -23,11 +23,6 @@ pub all-take : {A : Type 0} (P : A → Type 0) (n : ℕ) (xs : List A) → AllBy
 all-take P zero xs h = tt
 all-take P (suc n) [] h = tt
 all-take P (suc n) (x ∷ xs) h = (h.0, all-take P n xs h.1)
-
-pub length-take_most : {A : Type 0} (n : ℕ) (xs : List A) → length (take n xs) ≤ n
-length-take_most zero xs = omega arith
-length-take_most (suc n) [] = omega arith
-length-take_most (suc n) (x ∷ xs) = let h = length-take_most n xs in omega (arith, h)
 
 -- each numbered item is that of its number in the whole list, and passes what all pass
 pub all-numbered : {A : Type 0} (P : A → Type 0) (whole : List A) (n : ℕ) (xs : List A) → AllByRecursion P xs → ((i : ℕ) → slice_get whole (n + i) ≡ slice_get xs i)
