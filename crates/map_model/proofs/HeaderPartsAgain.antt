@@ -90,9 +90,6 @@ lon_fits : (z : ℤ) → is_longitude z ≡ true → is_signed_32 z ≡ true
 lon_fits (pos n) e = let le = leb-true n 180000000 e in le-leb n 2147483647 (omega (arith, le))
 lon_fits (negsuc n) e = let le = leb-true n 179999999 (and-true (leb n 179999999) e) in rw (le-leb n 2147483647 (omega (arith, le))) refl
 
-two_two : (a b c d : List ℕ) → a ++ b ++ c ++ d ≡ a ++ b ++ (c ++ d)
-two_two a b c d = append_assoc (a ++ b) c d
-
 one_three : (a b c d : List ℕ) → a ++ b ++ c ++ d ≡ a ++ (b ++ (c ++ d))
 one_three a b c d = simp append_assoc refl
 
@@ -112,7 +109,7 @@ box_again box h =
     let o = be_signed box.max_lon in
     let p = signed_behind box.min_lat 0 [] (w ++ (n ++ o)) (box_bytes box) (lat_fits box.min_lat b.0) refl (one_three s w n o) in
     let q = signed_behind box.min_lon 4 s (n ++ o) (box_bytes box) (lon_fits box.min_lon c.1) (length-big_endian 4 (cast_unsigned w32 box.min_lat)) (one_three s w n o) in
-    let r = signed_behind box.max_lat 8 (s ++ w) o (box_bytes box) (lat_fits box.max_lat b.1) (simp (length-append, length-big_endian) refl) (two_two s w n o) in
+    let r = signed_behind box.max_lat 8 (s ++ w) o (box_bytes box) (lat_fits box.max_lat b.1) (simp (length-append, length-big_endian) refl) (append_assoc (s ++ w) n o) in
     let t = signed_behind box.max_lon 12 (s ++ w ++ n) [] (box_bytes box) (lon_fits box.max_lon d.1) (simp (length-append, length-big_endian) refl) (three_one s w n o) in
     λ i. record { min_lat = p i; min_lon = q i; max_lat = r i; max_lon = t i }
 

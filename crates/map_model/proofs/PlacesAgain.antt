@@ -3,7 +3,7 @@ use Rattle.std.proofs.Common.{◌≡◌, ℕ, suc, ◌+◌, ◌-◌, ◌^◌, �
 use Rattle.std.specs.Prelude.{Bool, ◌&&◌, flat_map, cond, ℤ, pos, negsuc, neg_ℤ, nat_abs, ◌+ℤ◌, ◌-ℤ◌, nat_lt, Ok, leb}
 use Rattle.std.proofs.lemmas.Bool.{cases_lt, lt-ltb, le-ltb, le-leb, leb-true}
 use Rattle.std.proofs.lemmas.List.{drop_at, take_at}
-use Rattle.std.proofs.Math.IntN.{+ℤ_comm, +ℤ_assoc, -ℤ-+ℤ_cancel}
+use Rattle.std.proofs.Math.IntN.{+ℤ_assoc}
 use Rattle.std.specs.List.{AllByRecursion}
 use Rattle.std.proofs.Math.Numerals.{sub-one}
 use Rattle.mf_base.specs.Spelling.{vbe_unsigned, vbe_signed, string}
@@ -12,7 +12,7 @@ use Rattle.mf_base.specs.declared.place.Place.{Place}
 use Rattle.mf_base.specs.Ranges.{is_signed_32}
 use Rattle.feature_model.specs.Features.{Block}
 use Rattle.feature_model.specs.Inside.{Ring}
-use Rattle.mf_base.proofs.SignLaws.{nat_abs-neg}
+use Rattle.mf_base.proofs.SignLaws.{nat_abs-neg, plus_difference}
 use Rattle.map_model.specs.Tiles.{origin}
 use Rattle.map_model.specs.Layout.{step, step_bytes, steps_from, ring_steps, coordinate_bytes, ring_bytes, block_bytes}
 use Rattle.map_model.specs.Reader.{Read, times}
@@ -76,12 +76,9 @@ nat_abs-step a b ha hb =
     let lb = nat_abs-in_32 b hb in
     omega (arith, le, neg, la, lb)
 
-pub back : (base z : ℤ) → base +ℤ (z -ℤ base) ≡ z
-back base z = +ℤ_comm base (z -ℤ base) ∙ -ℤ-+ℤ_cancel z base
-
 pub ranged-again : (base z : ℤ) → is_signed_32 base ≡ true → is_signed_32 z ≡ true → Again (ranged base) (vbe_signed (z -ℤ base)) z
 unfolding Again ranged
-ranged-again base z hb hz rest = rw (signed-again (z -ℤ base) (nat_abs-step base z hb hz) rest, back base z, hz) refl
+ranged-again base z hb hz rest = rw (signed-again (z -ℤ base) (nat_abs-step base z hb hz) rest, plus_difference base z, hz) refl
 
 pub place_from-again : (base p : Place) → IsInRange base → IsInRange p → Again (place_from base) (step_bytes (step base p)) p
 unfolding Again place_from
@@ -121,7 +118,7 @@ second_step l d hl hd =
     omega (arith, le, neg, hl, hd)
 
 forth : (b l z : ℤ) → b +ℤ l +ℤ (z -ℤ b -ℤ l) ≡ z
-forth b l z = +ℤ_assoc b l (z -ℤ b -ℤ l) ∙ ap (λ k. b +ℤ k) (back l (z -ℤ b)) ∙ back b z
+forth b l z = +ℤ_assoc b l (z -ℤ b -ℤ l) ∙ ap (λ k. b +ℤ k) (plus_difference l (z -ℤ b)) ∙ plus_difference b z
 
 place_from-twice : (before last p : Place) → IsInRange before → IsStep last → IsInRange p → Again (place_from (moved before last)) (step_bytes (step last (step before p))) p
 unfolding Again place_from

@@ -1,7 +1,8 @@
 -- The tiles of a rectangle by their places, the tiles of two rectangles, and the texts of entries.
 use Rattle.std.proofs.Common.{◌≡◌, ℕ, zero, suc, ◌+◌, ◌-◌, ◌*◌, ◌<◌, ◌≤◌, List, [], ◌∷◌, ◌++◌, map, length, refl, sym, ap, ◌∙◌, arith, true, false, Some, None, length-append}
-use Rattle.std.specs.Prelude.{Bool, not, ◌&&◌, ◌==◌, max, min, cond, IsTrue, flat_map, slice_get, leb, unwrap_or, ◌↔◌}
+use Rattle.std.specs.Prelude.{Bool, not, ◌&&◌, ◌==◌, max, min, cond, IsTrue, flat_map, slice_get, leb, ◌↔◌}
 use Rattle.std.specs.List.{range_with_len, position_or_len}
+use Rattle.std.proofs.lemmas.Option.{cond_some}
 use Rattle.std.proofs.lemmas.Bool.{le-leb, leb-true, ne_eqb, eqb-false, and_parts, or_parts, not-true}
 use Rattle.std.proofs.lemmas.List.{length-map, take_at}
 use Rattle.std.proofs.Math.Seq.{drop-append-add}
@@ -104,10 +105,6 @@ tile-at_place t x y h =
 abbrev both_of : TileRect → TileRect → TileRect
 both_of a b = record { z = a.z; first_x = max a.first_x b.first_x; last_x = min a.last_x b.last_x; first_y = max a.first_y b.first_y; last_y = min a.last_y b.last_y }
 
-picked : (test : Bool) (r t : TileRect) → cond test (Some r) None ≡ Some t → (test ≡ true) × (r ≡ t)
-picked true r t e = (refl, ap (λ o. unwrap_or o r) e)
-picked false r t e = absurd (cc e)
-
 not_picked : (test : Bool) (r : TileRect) → cond test (Some r) None ≡ None → test ≡ false
 not_picked true r e = absurd (cc e)
 not_picked false r e = refl
@@ -137,7 +134,7 @@ parts-both a b x y h k =
 pub common-both : (a b t : TileRect) → common a b ≡ Some t → (x y : ℕ) → IsTrue (has_tile t x y) ↔ (IsTrue (has_tile a x y) × IsTrue (has_tile b x y))
 unfolding common
 common-both a b t e x y =
-    let is = (picked (leb (both_of a b).first_x (both_of a b).last_x && leb (both_of a b).first_y (both_of a b).last_y) (both_of a b) t e).1 in (
+    let is = (cond_some (leb (both_of a b).first_x (both_of a b).last_x && leb (both_of a b).first_y (both_of a b).last_y) (both_of a b) t e).1 in (
       (λ h. let parts = both-parts a b x y (within (both_of a b) x y (rw (sym is) at h)) in (lies a x y parts.0, lies b x y parts.1)),
       (λ h. rw (sym is) (lies (both_of a b) x y (parts-both a b x y (within a x y h.0) (within b x y h.1)))),
     )
@@ -145,7 +142,7 @@ common-both a b t e x y =
 pub common-some : (a b t : TileRect) → common a b ≡ Some t → IsTrue (has_tile t t.first_x t.first_y)
 unfolding common
 common-some a b t e =
-    let is = picked (leb (both_of a b).first_x (both_of a b).last_x && leb (both_of a b).first_y (both_of a b).last_y) (both_of a b) t e in
+    let is = cond_some (leb (both_of a b).first_x (both_of a b).last_x && leb (both_of a b).first_y (both_of a b).last_y) (both_of a b) t e in
     let sides = and_parts (leb (both_of a b).first_x (both_of a b).last_x) (leb (both_of a b).first_y (both_of a b).last_y) is.0 in
     let wide = leb-true (both_of a b).first_x (both_of a b).last_x sides.0 in
     let high = leb-true (both_of a b).first_y (both_of a b).last_y sides.1 in

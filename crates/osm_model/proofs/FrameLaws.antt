@@ -59,7 +59,8 @@ unfolding frame_front
 frame-ok at bytes size head n parts kind m body c near sized number small headed read named told few bodied held =
     rw (lt-ltb at offset_limit near) (rw sized (rw number (rw (le-leb n header_limit small) (rw headed (rw read (rw named (rw told (rw (le-leb m blob_limit few) (rw bodied (rw held refl))))))))))
 
-part-ok : (p q : List ℕ) (n : ℕ) → length p ≡ n → whole_part n (p ++ q) ≡ Ok p
+-- a part that stands in front
+pub part-ok : (p q : List ℕ) (n : ℕ) → length p ≡ n → whole_part n (p ++ q) ≡ Ok p
 part-ok p q n size = rw (le-leb n (length (p ++ q)) (omega (arith, size, length-append p q))) (ap Ok (take_at p q n size))
 
 part_found : (n : ℕ) (bytes p : List ℕ) → whole_part n bytes ≡ Ok p → (n ≤ length bytes) × (take n bytes ≡ p)
