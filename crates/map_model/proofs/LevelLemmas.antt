@@ -21,7 +21,7 @@ use Rattle.map_model.specs.Listed.{TagLists, Listed, poi, way, shown_poi, shown_
 
 -- ---- lists
 
-flat_map_ext : {A B : Type 0} (f g : A → List B) → ((x : A) → f x ≡ g x) → (xs : List A) → flat_map f xs ≡ flat_map g xs
+pub flat_map_ext : {A B : Type 0} (f g : A → List B) → ((x : A) → f x ≡ g x) → (xs : List A) → flat_map f xs ≡ flat_map g xs
 flat_map_ext f g e [] = refl
 flat_map_ext f g e (x ∷ xs) = λ i. e x i ++ flat_map_ext f g e xs i
 
@@ -84,7 +84,7 @@ filter-by_zoom p interval fs =
     filter-flat_map p (λ z. of_zoom interval z fs) (zooms interval)
     ∙ flat_map_ext (λ z. filter p (of_zoom interval z fs)) (λ z. of_zoom interval z (filter p fs)) (λ z. filter-comm p (λ f. effective_zoom interval f.zoom == z) fs) (zooms interval)
 
-by_zoom-nil : (interval : Interval) → by_zoom interval [] ≡ []
+pub by_zoom-nil : (interval : Interval) → by_zoom interval [] ≡ []
 by_zoom-nil interval = flat_map_nothing (zooms interval)
 
 way_is_no_poi : (f : Feature) → is_way f ≡ true → is_poi f ≡ false

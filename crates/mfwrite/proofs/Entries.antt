@@ -1,9 +1,8 @@
 -- The entry, the zoom levels and the date of words.
 use Rattle.std.proofs.Common.{◌≡◌, ℕ, [], ◌∷◌, refl, sym, ap, ◌∙◌, inl, inr, Bool, true, false, not, ◌&&◌, ◌||◌, Option, Some, None, option_and_then, Result, Ok, Err, codes, if◌then◌else◌, true≢false}
-use Rattle.std.specs.Prelude.{nat_le, bytes_eq}
+use Rattle.std.specs.Prelude.{nat_le}
 use Rattle.std.specs.Result.{result_ok}
 use Rattle.std.proofs.lemmas.Bool.{cases_Bool}
-use Rattle.std.proofs.lemmas.Slice.Eq.{bytes_eq-Decides}
 use Rattle.mf_base.specs.declared.kind.List as which
 use Rattle.mf_base.specs.Steps.{◌>>=◌}
 use Rattle.mf_base.specs.Texts.{Text, begins, has_byte, is_among}
@@ -15,6 +14,7 @@ use Rattle.feature_model.specs.Entries.{MappingFault, keeps_entry_rule, keeps_ki
 use Rattle.pbf_frame.specs.FirstForm.{kept_keys}
 use Rattle.mfwrite.specs.FirstWords.{behind, only_poi, is_plain, plain_only, told_entry, first_entry, first_interval, first_date, last_date}
 use Rattle.mfwrite.specs.Shown.{plain_entry, of_a_zoom, plain_tag}
+use Rattle.mfwrite.proofs.OneEntry.{no_mark}
 
 -- ---- the mapping of one entry
 
@@ -27,22 +27,16 @@ one_entry : (told : Option Entry) → option_and_then only_poi (result_ok (mappi
 unfolding mapping_told entries_behind
 one_entry told = single (entry_behind which.List.Poi [] told)
 
-told-behind : (text : Text) → told_entry text ≡ option_and_then plain_only (result_ok (entry_behind which.List.Poi [] (told_poi text)))
+pub told-behind : (text : Text) → told_entry text ≡ option_and_then plain_only (result_ok (entry_behind which.List.Poi [] (told_poi text)))
 unfolding told_entry
 told-behind text = ap (option_and_then plain_only) (one_entry (told_poi text))
 
 -- ---- the rules
 
 -- a value that does not begin with `%` keeps the kind rule
-not_int : (value : Text) → begins (codes "%") value ≡ false → bytes_eq value (codes "%i") ≡ false
-not_int value h = elim (cases_Bool (bytes_eq value (codes "%i"))) [
-  | inr other ↦ other
-  | inl same ↦ absurd (true≢false (sym (ap (begins (codes "%")) ((bytes_eq-Decides value (codes "%i")).0 same)) ∙ h))
-]
-
 plain-kind : (e : Entry) → begins (codes "%") e.value ≡ false → keeps_kind_rule e ≡ true
 unfolding keeps_kind_rule
-plain-kind e h = rw (h, not_int e.value h) refl
+plain-kind e h = rw (h, no_mark e.value (codes "%i") refl h) refl
 
 no_kind : (e : Entry) → keeps_kind_rule e ≡ false → is_plain e ≡ false
 no_kind e h = elim (cases_Bool (begins (codes "%") e.value)) [
@@ -50,7 +44,7 @@ no_kind e h = elim (cases_Bool (begins (codes "%") e.value)) [
   | inr plain ↦ absurd (true≢false (sym (plain-kind e plain) ∙ h))
 ]
 
-judged : (e : Entry) → option_and_then plain_only (result_ok (entry_behind which.List.Poi [] (Some e))) ≡ (if keeps_entry_rule which.List.Poi e && is_plain e then Some e else None)
+pub judged : (e : Entry) → option_and_then plain_only (result_ok (entry_behind which.List.Poi [] (Some e))) ≡ (if keeps_entry_rule which.List.Poi e && is_plain e then Some e else None)
 unfolding entry_behind
 judged e = elim (cases_Bool (keeps_entry_rule which.List.Poi e)) [
   | inr broken ↦ rw broken refl

@@ -1,10 +1,10 @@
 -- The bytes of the header and their number.
-use Rattle.std.proofs.Common.{◌≡◌, ℕ, ◌+◌, ◌-◌, ◌≤◌, List, [], ◌∷◌, ◌++◌, length, refl, arith, append_assoc, append-nil, length-append, ap, sym, ◌∙◌}
+use Rattle.std.proofs.Common.{◌≡◌, ℕ, suc, ◌+◌, ◌-◌, ◌≤◌, List, [], ◌∷◌, ◌++◌, length, refl, arith, append_assoc, append-nil, length-append, ap, sym, ◌∙◌}
 use Rattle.std.specs.Prelude.{sum_by}
 use Rattle.mf_base.specs.Spelling.{vbe_unsigned, big_endian, string}
 use Rattle.mf_base.specs.Buffer.{Buffer, AppendsTo}
 use Rattle.mf_base.specs.declared.place.Rect.{Rect}
-use Rattle.mf_base.proofs.OneSpelling.{vbe-small}
+use Rattle.mf_base.proofs.OneSpelling.{vbe-small, length-vbe_unsigned-63}
 use Rattle.map_model.specs.Listed.{TagLists}
 use Rattle.map_model.specs.Header.{HeadSettings, SubFile, magic_word, mercator_word, box_bytes, interval_bytes, middle_bytes, fields_bytes, header_fields_bytes, written_header, header_size, header_bytes, sub_files}
 use Rattle.map_model.proofs.SizeLemmas.{length-big_endian, length-fields, length-header_bytes}
@@ -72,6 +72,13 @@ first_head-size head tag size e s =
     let middle = length-middle head in
     let n = ap (λ t. length (vbe_unsigned t)) e in
     omega (arith, middle, n, e, s)
+
+pub head-small : (head : FirstHead) → length head.key.now ≤ 255 → length head.value.now ≤ 255 → header_size (settings_of head) (tag_lists_of head) ≤ 617
+head-small head key value =
+    let tag = length (head.key.now ++ 61 ∷ head.value.now) in
+    let long : tag ≡ length head.key.now + suc (length head.value.now) = length-append head.key.now (61 ∷ head.value.now) in
+    let few = length-vbe_unsigned-63 tag (omega (arith, long, key, value)) in
+    omega (arith, long, key, value, few, first_head-size head tag (length (vbe_unsigned tag)) refl refl)
 
 pub head-least : (head : FirstHead) → 24 ≤ header_size (settings_of head) (tag_lists_of head)
 unfolding header_size

@@ -6,3 +6,16 @@ pub mod Digits
 pub mod Parts
 pub mod Entries
 pub mod Three
+pub mod Listing
+pub mod FirstSizes
+pub mod Made
+pub mod Lists
+pub mod OneEntry
+pub mod Matching
+pub mod OneTile
+pub mod OneMap
+pub mod ToldWords
+pub mod HeadOfWords
+pub mod BenchRows
+pub mod Statuses
+pub mod Programs

@@ -18,6 +18,11 @@ puts-four first b2 b3 b4 last a b c d one two three four = appends-both first b4
 pub puts-five : (first b2 b3 b4 b5 last : Buffer) (a b c d e : List ℕ) → AppendsTo first b2 a → AppendsTo b2 b3 b → AppendsTo b3 b4 c → AppendsTo b4 b5 d → AppendsTo b5 last e → AppendsTo first last ((((a ++ b) ++ c) ++ d) ++ e)
 puts-five first b2 b3 b4 b5 last a b c d e one two three four five = appends-both first b5 last _ _ (puts-four first b2 b3 b4 b5 _ _ _ _ one two three four) five
 
+pub puts-five_behind : (first b0 b1 b2 b3 b4 last : Buffer) (front a b c d e : List ℕ) → AppendsTo first b0 front → AppendsTo b0 b1 a → AppendsTo b1 b2 b → AppendsTo b2 b3 c → AppendsTo b3 b4 d → AppendsTo b4 last e
+    → AppendsTo first last (((((front ++ a) ++ b) ++ c) ++ d) ++ e)
+puts-five_behind first b0 b1 b2 b3 b4 last front a b c d e before one two three four five =
+    appends-both first b4 last _ _ (appends-both first b3 b4 _ _ (appends-both first b2 b3 _ _ (appends-both first b1 b2 _ _ (appends-both first b0 b1 _ _ before one) two) three) four) five
+
 pub puts-most : (first next : Buffer) (bytes : List ℕ) (n : ℕ) → AppendsTo first next bytes → length bytes ≤ n → length next.bytes ≤ length first.bytes + n
 puts-most first next bytes n put short = rw put (omega (arith, length-append first.bytes bytes, short))
 

@@ -1,4 +1,4 @@
--- What the reader of words answers, in the words of the definitions.
+-- What calls of this crate answer, in the words of the definitions.
 use Rattle.std.specs.Prelude.{ℕ, Bool, not, ◌&&◌, nat_le, codes, false, Option, Some, None, if◌then◌else◌}
 use Rattle.std.specs.Borrow.{Bor}
 use Rattle.mf_base.specs.Texts.{Text, begins, is_among}
@@ -7,6 +7,10 @@ use Rattle.feature_model.specs.Entries.{is_short}
 use Rattle.mfwrite.specs.FirstWords as spec
 use Rattle.mfwrite.specs.declared.first_words.FirstWords.{FirstWords}
 use Rattle.pbf_frame.specs.FirstForm.{kept_keys}
+use Rattle.map_model.specs.MapFile.{Report}
+use Rattle.mfwrite.specs.declared.report.Report as told
+use Rattle.mfwrite.specs.declared.status.Fault.{Fault}
+use Rattle.mfwrite.specs.declared.status.Fault.TheVariants.{Read, Write, Memory, NotBuilt}
 
 -- an entry without marks
 abbrev pub plain_entry : Text → Text → ℕ → Entry
@@ -27,3 +31,14 @@ plain_tag key value = is_short key && is_short value && not (begins (codes "%") 
 -- the words that the reader tells
 abbrev pub words_shown : FirstWords → spec.FirstWords
 words_shown w = record { entry = plain_entry w.key.now w.value.now w.zoom; interval = w.interval; date = w.date }
+
+-- the status of a fault
+abbrev pub fault_status : Fault → ℕ
+fault_status Read = 6
+fault_status Write = 7
+fault_status Memory = 9
+fault_status NotBuilt = 11
+
+-- the report that is told: of ways, relations, skipped candidates and water there are none
+abbrev pub report_shown : told.Report → Report
+report_shown r = record { nodes = r.nodes; ways = 0; relations = 0; features = r.features; skipped = 0; tiles = r.tiles; water = 0; bytes = r.bytes; largest = r.largest }

@@ -1,0 +1,31 @@
+-- What a program does, by what was prepared for it.
+use Rattle.std.proofs.Common.{◌≡◌, ◌≢◌, ◌⊎◌, inl, inr, ℕ, ◌<◌, Option, Some, None, arith, refl}
+use Rattle.mfwrite.specs.FirstWords.{FirstWords}
+use Rattle.mfwrite.specs.FirstRun.{refusal_status}
+use Rattle.mfwrite.specs.declared.prepare.Prepared.{Prepared}
+use Rattle.mfwrite.specs.declared.prepare.Prepared.TheVariants.{Ready, Refused}
+use Rattle.mfwrite.specs.declared.prepare.Refusal.{Refusal}
+use Rattle.mfwrite.specs.declared.prepare.Refusal.TheVariants.{NotBuilt, Memory}
+
+-- what a run answers under each refusal
+abbrev pub UnderRefusal : Prepared → ℕ → Type 0
+UnderRefusal p status = (r : Refusal) → p ≡ Refused r → status ≡ refusal_status r
+
+-- a status below 9 comes only where the words tell a job
+pub of-job : (p : Prepared) (told : Option FirstWords) (Done : FirstWords → Type 0) (status n : ℕ) → n < 9
+    → ((job : FirstWords) → p ≡ Ready job → told ≡ Some job) → ((job : FirstWords) → p ≡ Ready job → status ≡ n → Done job) → UnderRefusal p status
+    → status ≡ n → (job : FirstWords) × (told ≡ Some job) × Done job
+of-job (Ready job) told Done status n small ready done refused is = (job, ready job refl, done job refl is)
+of-job (Refused NotBuilt) told Done status n small ready done refused is = absurd (omega (arith, small, is, refused NotBuilt refl))
+of-job (Refused Memory) told Done status n small ready done refused is = absurd (omega (arith, small, is, refused Memory refl))
+
+-- memory is wanting only where there is a refusal
+pub of-memory : (p : Prepared) (status : ℕ) → ((job : FirstWords) → p ≡ Ready job → status ≢ 9) → status ≡ 9 → (r : Refusal) × (p ≡ Refused r)
+of-memory (Ready job) status never is = absurd (never job refl is)
+of-memory (Refused r) status never is = (r, refl)
+
+-- with no fault the map is written, or memory is wanting, or there is another refusal
+pub of-any : (p : Prepared) (status : ℕ) → ((job : FirstWords) → p ≡ Ready job → (status ≡ 0) ⊎ (status ≡ 11)) → UnderRefusal p status → (status ≡ 0) ⊎ ((status ≡ 9) ⊎ (status ≡ 11))
+of-any (Ready job) status done refused = elim (done job refl) [ inl written ↦ inl written | inr other ↦ inr (inr other) ]
+of-any (Refused NotBuilt) status done refused = inr (inr (refused NotBuilt refl))
+of-any (Refused Memory) status done refused = inr (inl (refused Memory refl))

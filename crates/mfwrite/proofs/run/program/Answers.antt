@@ -1,0 +1,26 @@
+use Rattle.std.proofs.Common.{arith}
+use Rattle.mfwrite.specs.declared.prepare.Refusal.TheVariants.{NotBuilt}
+use Rattle.mfwrite.proofs.Programs.{of-job, of-memory, of-any}
+use Rattle.mfwrite.proofs.run.program.Goals as goal
+
+pub returns-clause-written : goal.returns-clause-written
+returns-clause-written g c = λ is.
+    let done = of-job c.prepare.result _ _ _ 0 (omega arith) c.prepare.ensures.ready c.run.ensures.written (λ r refusal. (c.run.ensures.refused r refusal).0) is in
+    (done.0, done.1, done.2.0, done.2.1)
+
+pub returns-clause-begun : goal.returns-clause-begun
+returns-clause-begun g c = λ is.
+    let begun = of-job c.prepare.result _ _ _ 7 (omega arith) c.prepare.ensures.ready c.run.ensures.begun (λ r refusal. (c.run.ensures.refused r refusal).0) is in
+    (begun.0, begun.1, begun.2.0, begun.2.1)
+
+pub returns-clause-refused : goal.returns-clause-refused
+returns-clause-refused g c = λ none. c.run.ensures.refused NotBuilt (c.prepare.ensures.not_built.1 none)
+
+pub returns-clause-memory : goal.returns-clause-memory
+returns-clause-memory g c = λ wanting.
+    let refusal = of-memory c.prepare.result _ c.run.ensures.no_memory wanting in
+    let left = c.run.ensures.refused refusal.0 refusal.1 in
+    (left.1, left.2)
+
+pub returns-clause-complete : goal.returns-clause-complete
+returns-clause-complete g c = λ job told read write. of-any c.prepare.result _ (λ j is. c.run.ensures.complete j is read write) (λ r is. (c.run.ensures.refused r is).0)

@@ -1,0 +1,12 @@
+use Rattle.std.proofs.Common.{rules, Err, ap, sym, ◌≡◌, ◌∙◌, subst}
+use Rattle.pbf_frame.specs.FirstForm.{FirstValue}
+use Rattle.mfwrite.specs.FirstRun.{IsBegun}
+use Rattle.mfwrite.specs.Shown.{words_shown}
+use Rattle.mfwrite.proofs.Statuses.{write-is}
+use Rattle.mfwrite.proofs.run.run_job.Goals as goal
+
+pub returns-clause-begun : goal.returns-clause-begun
+returns-clause-begun g c = λ is.
+    let words : words_shown c.lent.result ≡ c.args.job = search rules in
+    subst (λ w. (v : FirstValue) × IsBegun w v (g.S.Source.left c.args.input.now) (g.S.Source.left c.make_map.new.input) (g.K.Sink.taken c.args.output.now) (g.K.Sink.taken c.make_map.new.output)) words
+      (c.in-Err.ensures.begun (ap Err (write-is c.in-Err.fault (sym c.status.ensures ∙ is))))

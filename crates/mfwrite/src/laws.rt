@@ -1,0 +1,44 @@
+//! Laws of what a job with one entry makes of an input of the first form.
+
+ghost use Rattle.std.specs.Prelude.{◌≡◌, ℕ, ◌+◌, ◌*◌, false, List, [], ◌∷◌, ◌++◌, length, min, max, Some};
+ghost use Rattle.map_model.specs.SubFile.{entry_bytes};
+ghost use Rattle.map_model.specs.Header.{header_size, header_bytes, sub_files};
+ghost use Rattle.tile_body.specs.FirstTile.{AreMembers};
+ghost use Rattle.pbf_frame.specs.FirstForm.{FirstValue, bounds_told, nodes_told};
+ghost use Rattle.mfwrite.specs.FirstWords.{FirstWords, first_words};
+ghost use Rattle.mfwrite.specs.FirstJob.{AreFirstWords, settings, tags_listed};
+ghost use Rattle.mfwrite.specs.FirstMap.{first_map, first_report, matching, pois, tile_told, sub_file_told};
+
+/// The map is the header, the index of one tile that is not covered by water, and the tile.
+#[tactic(auto, using(crate::proofs::OneMap::map_laws))]
+pub fn one_tile_map()
+    ensures map { (w : FirstWords) (v : FirstValue) → AreFirstWords w
+        → first_map w v ≡ header_bytes (settings w) (bounds_told v) (tags_listed w) (sub_files (header_size (settings w) (tags_listed w)) (sub_file_told w v ∷ [])) ++ entry_bytes false 5 ++ tile_told w v }
+{}
+
+/// The POIs may be the members of a tile of the sub-file, in their order.
+pub fn pois_are_members()
+    ensures members { (w : FirstWords) (v : FirstValue) → AreMembers w.interval (pois w v) }
+{}
+
+/// The report counts the nodes, those that match and the one tile, where it has members. A feature weighs 11.
+#[tactic(auto, using(crate::proofs::OneMap::map_laws))]
+pub fn one_tile_report()
+    ensures report { (w : FirstWords) (v : FirstValue) → AreFirstWords w
+        → first_report w v ≡ record {
+          nodes = length (nodes_told v);
+          ways = 0;
+          relations = 0;
+          features = length (matching w v);
+          skipped = 0;
+          tiles = min 1 (length (pois w v));
+          water = 0;
+          bytes = header_size (settings w) (tags_listed w) + sub_file_told w v;
+          largest = 11 * max (min 1 (length (matching w v))) (length (pois w v));
+        } }
+{}
+
+/// What three words tell is a job of one plain entry and one sub-file.
+pub fn words_told()
+    ensures sound { (words : List (List ℕ)) (w : FirstWords) → first_words words ≡ Some w → AreFirstWords w }
+{}

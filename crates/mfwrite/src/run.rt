@@ -1,0 +1,113 @@
+//! The top calls: what the program does, over any devices.
+
+ghost use Rattle.std.specs.Prelude.{◌≡◌, ◌≢◌, ◌⊎◌, map, string_bytes, Some, None};
+ghost use Rattle.mf_edge.specs.Device.{HasRisen};
+ghost use Rattle.pbf_frame.specs.FirstForm.{FirstValue};
+ghost use Rattle.mfwrite.specs.FirstWords.{FirstWords, first_words as words_told};
+ghost use Rattle.mfwrite.specs.FirstRun.{Says, IsWritten, IsBegun, refusal_status, status_text};
+ghost use Rattle.mfwrite.specs.declared.prepare.Refusal.{Refusal};
+ghost use Rattle.mfwrite.specs.declared.prepare.Prepared.TheVariants.{Ready, Refused};
+
+use crate::job::Job;
+use crate::map::make_map;
+use crate::prepare::{Prepared, prepare};
+use crate::report::put_report;
+use crate::status::{WRITTEN, fault_of, say_text};
+use mf_edge::{Sink, Source};
+use std::alloc::Global;
+
+/// Runs what was prepared and answers the status.
+pub fn run<S: Source, K: Sink, E: Sink>(
+    prepared: Prepared,
+    input: &mut S,
+    output: &mut K,
+    say: &mut E,
+) -> u8
+    // Success comes only with the defined map taken and its report said.
+    ensures written { (job : FirstWords) → prepared ≡ Ready job → result ≡ 0 → (v : FirstValue) × IsWritten job v (S.left input.old) (S.left input.new) (K.taken output.old) (K.taken output.new) (E.taken say.old) (E.faults say.old) (E.taken say.new) (E.faults say.new) }
+
+    // A device's fault is told only where its count rose.
+    ensures device_fault { (result ≡ 6 → HasRisen (S.faults input.old) (S.faults input.new)) × (result ≡ 7 → HasRisen (K.faults output.old) (K.faults output.new)) }
+
+    // Under a refusal the status is its own, and input and output are as before. Under a job memory is never wanting.
+    ensures refused { (r : Refusal) → prepared ≡ Refused r → (result ≡ refusal_status r) × (input.new ≡ input.old) × (output.new ≡ output.old) }
+    ensures no_memory { (job : FirstWords) → prepared ≡ Ready job → result ≢ 9 }
+
+    // Under a job, where no count rose, the map is written or the input is not of the first form.
+    ensures complete { (job : FirstWords) → prepared ≡ Ready job → (HasRisen (S.faults input.old) (S.faults input.new) → ⊥) → (HasRisen (K.faults output.old) (K.faults output.new) → ⊥) → (result ≡ 0) ⊎ (result ≡ 11) }
+
+    // Nothing is written but under success and under a fault of the output, and then what is written is a front of the map.
+    ensures untouched { result ≢ 0 → result ≢ 7 → output.new ≡ output.old }
+    ensures begun { (job : FirstWords) → prepared ≡ Ready job → result ≡ 7 → (v : FirstValue) × IsBegun job v (S.left input.old) (S.left input.new) (K.taken output.old) (K.taken output.new) }
+
+    // The text of the status is said.
+    ensures told { result ≢ 0 → Says (status_text result) (E.taken say.old) (E.faults say.old) (E.taken say.new) (E.faults say.new) }
+{
+    match prepared {
+        Prepared::Ready(job) => run_job(job, input, output, say),
+        Prepared::Refused(refusal) => {
+            let fault = fault_of(refusal);
+            say_text(say, fault.text());
+            fault.status()
+        }
+    }
+}
+
+// Runs a job, and answers the status.
+fn run_job<S: Source, K: Sink, E: Sink>(
+    job: Job,
+    input: &mut S,
+    output: &mut K,
+    say: &mut E,
+) -> u8
+    ensures written { result ≡ 0 → (v : FirstValue) × IsWritten job v (S.left input.old) (S.left input.new) (K.taken output.old) (K.taken output.new) (E.taken say.old) (E.faults say.old) (E.taken say.new) (E.faults say.new) }
+    ensures device_fault { (result ≡ 6 → HasRisen (S.faults input.old) (S.faults input.new)) × (result ≡ 7 → HasRisen (K.faults output.old) (K.faults output.new)) }
+    ensures statuses { (result ≡ 0) ⊎ ((result ≡ 6) ⊎ ((result ≡ 7) ⊎ (result ≡ 11))) }
+    ensures untouched { result ≢ 0 → result ≢ 7 → output.new ≡ output.old }
+    ensures begun { result ≡ 7 → (v : FirstValue) × IsBegun job v (S.left input.old) (S.left input.new) (K.taken output.old) (K.taken output.new) }
+    ensures told { result ≢ 0 → Says (status_text result) (E.taken say.old) (E.faults say.old) (E.taken say.new) (E.faults say.new) }
+{
+    let Job { words, mut room } = job;
+    match make_map(&words.lent(), &mut room, input, output) {
+        Ok(report) => {
+            put_report(&mut room.line, &report);
+            say_text(say, room.line.bytes());
+            WRITTEN
+        }
+        Err(fault) => {
+            say_text(say, fault.text());
+            fault.status()
+        }
+    }
+}
+
+/// Prepares by the words of the command line and runs, and answers the status.
+pub fn program<S: Source, K: Sink, E: Sink>(
+    alloc: Global,
+    words: &[String],
+    input: &mut S,
+    output: &mut K,
+    say: &mut E,
+) -> u8
+    // Success comes only where the words tell a job, with its map of the input taken and its report said.
+    ensures written { result ≡ 0 → (job : FirstWords) × (words_told (map string_bytes words.now) ≡ Some job) × (v : FirstValue) × IsWritten job v (S.left input.old) (S.left input.new) (K.taken output.old) (K.taken output.new) (E.taken say.old) (E.faults say.old) (E.taken say.new) (E.faults say.new) }
+
+    // A device's fault is told only where its count rose.
+    ensures device_fault { (result ≡ 6 → HasRisen (S.faults input.old) (S.faults input.new)) × (result ≡ 7 → HasRisen (K.faults output.old) (K.faults output.new)) }
+
+    // Where the words tell no job, the status is 11, and input and output are as before. They are as before, too, where memory is wanting.
+    ensures refused { words_told (map string_bytes words.now) ≡ None → (result ≡ 11) × (input.new ≡ input.old) × (output.new ≡ output.old) }
+    ensures memory { result ≡ 9 → (input.new ≡ input.old) × (output.new ≡ output.old) }
+
+    // Where they tell a job and no count rose, the map is written, or memory is wanting, or the input is not of the first form.
+    ensures complete { (job : FirstWords) → words_told (map string_bytes words.now) ≡ Some job → (HasRisen (S.faults input.old) (S.faults input.new) → ⊥) → (HasRisen (K.faults output.old) (K.faults output.new) → ⊥) → (result ≡ 0) ⊎ ((result ≡ 9) ⊎ (result ≡ 11)) }
+
+    // Nothing is written but under success and under a fault of the output, and then what is written is a front of the map.
+    ensures untouched { result ≢ 0 → result ≢ 7 → output.new ≡ output.old }
+    ensures begun { result ≡ 7 → (job : FirstWords) × (words_told (map string_bytes words.now) ≡ Some job) × (v : FirstValue) × IsBegun job v (S.left input.old) (S.left input.new) (K.taken output.old) (K.taken output.new) }
+
+    // The text of the status is said.
+    ensures told { result ≢ 0 → Says (status_text result) (E.taken say.old) (E.faults say.old) (E.taken say.new) (E.faults say.new) }
+{
+    run(prepare(alloc, words), input, output, say)
+}
