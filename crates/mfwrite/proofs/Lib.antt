@@ -19,3 +19,4 @@ pub mod HeadOfWords
 pub mod BenchRows
 pub mod Statuses
 pub mod Programs
+pub mod Others

@@ -1,5 +1,6 @@
 -- What a program does, by what was prepared for it.
-use Rattle.std.proofs.Common.{◌≡◌, ◌≢◌, ◌⊎◌, inl, inr, ℕ, ◌<◌, Option, Some, None, arith, refl}
+use Rattle.std.proofs.Common.{◌≡◌, ◌≢◌, ◌⊎◌, inl, inr, ℕ, ◌<◌, Option, Some, None, arith, refl, sym, ◌∙◌}
+use Rattle.mf_base.proofs.StepLaws.{no_some}
 use Rattle.mfwrite.specs.FirstWords.{FirstWords}
 use Rattle.mfwrite.specs.FirstRun.{refusal_status}
 use Rattle.mfwrite.specs.declared.prepare.Prepared.{Prepared}
@@ -29,3 +30,17 @@ pub of-any : (p : Prepared) (status : ℕ) → ((job : FirstWords) → p ≡ Rea
 of-any (Ready job) status done refused = elim (done job refl) [ inl written ↦ inl written | inr other ↦ inr (inr other) ]
 of-any (Refused NotBuilt) status done refused = inr (inr (refused NotBuilt refl))
 of-any (Refused Memory) status done refused = inr (inl (refused Memory refl))
+
+-- status 11 comes only where the words tell no job, or from the run
+pub of-not_built : (p : Prepared) (told : Option FirstWords) (Other : Type 0) (status : ℕ) → (p ≡ Refused NotBuilt → told ≡ None) → ((job : FirstWords) → p ≡ Ready job → status ≡ 11 → Other) → UnderRefusal p status
+    → status ≡ 11 → (told ≡ None) ⊎ Other
+of-not_built (Ready job) told Other status none other refused is = inr (other job refl is)
+of-not_built (Refused NotBuilt) told Other status none other refused is = inl (none refl)
+of-not_built (Refused Memory) told Other status none other refused is = absurd (omega (arith, is, refused Memory refl))
+
+-- where the words tell a job, the run is a success or memory is wanting
+pub of-accepted : (p : Prepared) (told : Option FirstWords) (job : FirstWords) (status : ℕ) → told ≡ Some job → (p ≡ Refused NotBuilt → told ≡ None) → ((j : FirstWords) → p ≡ Ready j → status ≡ 0) → UnderRefusal p status
+    → (status ≡ 0) ⊎ (status ≡ 9)
+of-accepted (Ready j) told job status some none success refused = inl (success j refl)
+of-accepted (Refused NotBuilt) told job status some none success refused = absurd (no_some job (sym (none refl) ∙ some))
+of-accepted (Refused Memory) told job status some none success refused = inr (refused Memory refl)

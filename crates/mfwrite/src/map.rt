@@ -1,6 +1,6 @@
 //! The map: the input is read, and header, index and tile are written.
 
-ghost use Rattle.std.specs.Prelude.{◌≡◌, ◌≢◌, ◌≤◌, ◌<◌, ◌^◌, ◌+◌, ◌*◌, ◌++◌, [], ◌∷◌, length, min, max, vec_capacity, IfOk, OnOk, OnErr, Err};
+ghost use Rattle.std.specs.Prelude.{◌≡◌, ◌≢◌, ◌≤◌, ◌<◌, ◌^◌, ◌+◌, ◌*◌, ◌++◌, [], ◌∷◌, ℕ, List, length, min, max, vec_capacity, IfOk, OnOk, OnErr, Err};
 ghost use Rattle.mf_base.specs.Buffer.{HasRoom, AppendsTo};
 ghost use Rattle.mf_edge.specs.Device.{Takes, IsAtEnd, Gains, GainsFront, HasRisen};
 ghost use Rattle.tile_body.specs.FirstTile.{AreMembers, first_tile_bytes};
@@ -47,6 +47,7 @@ pub(crate) fn make_map<S: Source, K: Sink>(
 
     ensures read { result ≡ Err Fault.Read → HasRisen (S.faults input.old) (S.faults input.new) }
     ensures write { result ≡ Err Fault.Write → HasRisen (K.faults output.old) (K.faults output.new) }
+    ensures other { result ≡ Err Fault.NotBuilt → (bytes : List ℕ) × IsOther bytes (S.left input.old) (S.left input.new) }
     ensures never { result ≢ Err Fault.Memory }
 
     ensures untouched { OnErr result ((result ≢ Err Fault.Write) → output.new ≡ output.old) }

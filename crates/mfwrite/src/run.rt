@@ -1,10 +1,10 @@
 //! The top calls: what the program does, over any devices.
 
-ghost use Rattle.std.specs.Prelude.{◌≡◌, ◌≢◌, ◌⊎◌, map, string_bytes, Some, None};
+ghost use Rattle.std.specs.Prelude.{◌≡◌, ◌≢◌, ◌⊎◌, ℕ, List, map, string_bytes, Some, None};
 ghost use Rattle.mf_edge.specs.Device.{HasRisen};
-ghost use Rattle.pbf_frame.specs.FirstForm.{FirstValue};
+ghost use Rattle.pbf_frame.specs.FirstForm.{FirstValue, IsFirstForm, first_bytes};
 ghost use Rattle.mfwrite.specs.FirstWords.{FirstWords, first_words as words_told};
-ghost use Rattle.mfwrite.specs.FirstRun.{Says, IsWritten, IsBegun, refusal_status, status_text};
+ghost use Rattle.mfwrite.specs.FirstRun.{Says, IsWritten, IsBegun, IsOther, refusal_status, status_text};
 ghost use Rattle.mfwrite.specs.declared.prepare.Refusal.{Refusal};
 ghost use Rattle.mfwrite.specs.declared.prepare.Prepared.TheVariants.{Ready, Refused};
 
@@ -36,6 +36,10 @@ pub fn run<S: Source, K: Sink, E: Sink>(
     // Under a job, where no count rose, the map is written or the input is not of the first form.
     ensures complete { (job : FirstWords) → prepared ≡ Ready job → (HasRisen (S.faults input.old) (S.faults input.new) → ⊥) → (HasRisen (K.faults output.old) (K.faults output.new) → ⊥) → (result ≡ 0) ⊎ (result ≡ 11) }
 
+    // Status 11 comes only where the input is not of the first form, so one that is makes success.
+    ensures not_built { (job : FirstWords) → prepared ≡ Ready job → result ≡ 11 → (bytes : List ℕ) × IsOther bytes (S.left input.old) (S.left input.new) }
+    ensures accepted { (job : FirstWords) → prepared ≡ Ready job → (v : FirstValue) → IsFirstForm v → S.left input.old ≡ Some (first_bytes v) → (HasRisen (S.faults input.old) (S.faults input.new) → ⊥) → (HasRisen (K.faults output.old) (K.faults output.new) → ⊥) → result ≡ 0 }
+
     // Nothing is written but under success and under a fault of the output, and then what is written is a front of the map.
     ensures untouched { result ≢ 0 → result ≢ 7 → output.new ≡ output.old }
     ensures begun { (job : FirstWords) → prepared ≡ Ready job → result ≡ 7 → (v : FirstValue) × IsBegun job v (S.left input.old) (S.left input.new) (K.taken output.old) (K.taken output.new) }
@@ -63,6 +67,7 @@ fn run_job<S: Source, K: Sink, E: Sink>(
     ensures written { result ≡ 0 → (v : FirstValue) × IsWritten job v (S.left input.old) (S.left input.new) (K.taken output.old) (K.taken output.new) (E.taken say.old) (E.faults say.old) (E.taken say.new) (E.faults say.new) }
     ensures device_fault { (result ≡ 6 → HasRisen (S.faults input.old) (S.faults input.new)) × (result ≡ 7 → HasRisen (K.faults output.old) (K.faults output.new)) }
     ensures statuses { (result ≡ 0) ⊎ ((result ≡ 6) ⊎ ((result ≡ 7) ⊎ (result ≡ 11))) }
+    ensures not_built { result ≡ 11 → (bytes : List ℕ) × IsOther bytes (S.left input.old) (S.left input.new) }
     ensures untouched { result ≢ 0 → result ≢ 7 → output.new ≡ output.old }
     ensures begun { result ≡ 7 → (v : FirstValue) × IsBegun job v (S.left input.old) (S.left input.new) (K.taken output.old) (K.taken output.new) }
     ensures told { result ≢ 0 → Says (status_text result) (E.taken say.old) (E.faults say.old) (E.taken say.new) (E.faults say.new) }
@@ -101,6 +106,10 @@ pub fn program<S: Source, K: Sink, E: Sink>(
 
     // Where they tell a job and no count rose, the map is written, or memory is wanting, or the input is not of the first form.
     ensures complete { (job : FirstWords) → words_told (map string_bytes words.now) ≡ Some job → (HasRisen (S.faults input.old) (S.faults input.new) → ⊥) → (HasRisen (K.faults output.old) (K.faults output.new) → ⊥) → (result ≡ 0) ⊎ ((result ≡ 9) ⊎ (result ≡ 11)) }
+
+    // Status 11 comes only where the words tell no job or the input is not of the first form.
+    ensures not_built { result ≡ 11 → (words_told (map string_bytes words.now) ≡ None) ⊎ ((bytes : List ℕ) × IsOther bytes (S.left input.old) (S.left input.new)) }
+    ensures accepted { (job : FirstWords) → words_told (map string_bytes words.now) ≡ Some job → (v : FirstValue) → IsFirstForm v → S.left input.old ≡ Some (first_bytes v) → (HasRisen (S.faults input.old) (S.faults input.new) → ⊥) → (HasRisen (K.faults output.old) (K.faults output.new) → ⊥) → (result ≡ 0) ⊎ (result ≡ 9) }
 
     // Nothing is written but under success and under a fault of the output, and then what is written is a front of the map.
     ensures untouched { result ≢ 0 → result ≢ 7 → output.new ≡ output.old }

@@ -1,6 +1,6 @@
 use Rattle.std.proofs.Common.{arith}
 use Rattle.mfwrite.specs.declared.prepare.Refusal.TheVariants.{NotBuilt}
-use Rattle.mfwrite.proofs.Programs.{of-job, of-memory, of-any}
+use Rattle.mfwrite.proofs.Programs.{of-job, of-memory, of-any, of-not_built, of-accepted}
 use Rattle.mfwrite.proofs.run.program.Goals as goal
 
 pub returns-clause-written : goal.returns-clause-written
@@ -24,3 +24,10 @@ returns-clause-memory g c = λ wanting.
 
 pub returns-clause-complete : goal.returns-clause-complete
 returns-clause-complete g c = λ job told read write. of-any c.prepare.result _ (λ j is. c.run.ensures.complete j is read write) (λ r is. (c.run.ensures.refused r is).0)
+
+pub returns-clause-not_built : goal.returns-clause-not_built
+returns-clause-not_built g c = of-not_built c.prepare.result _ _ _ c.prepare.ensures.not_built.0 c.run.ensures.not_built (λ r refusal. (c.run.ensures.refused r refusal).0)
+
+pub returns-clause-accepted : goal.returns-clause-accepted
+returns-clause-accepted g c = λ job told v form left read write.
+    of-accepted c.prepare.result _ job _ told c.prepare.ensures.not_built.0 (λ j is. c.run.ensures.accepted j is v form left read write) (λ r refusal. (c.run.ensures.refused r refusal).0)
