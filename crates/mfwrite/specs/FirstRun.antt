@@ -1,9 +1,11 @@
 -- What a run says, and what it does to its devices: this project's profile.
-use Rattle.std.specs.Prelude.{◌≢◌, ◌⊎◌, ◌<◌, ◌==◌, ℕ, ◌+◌, if◌then◌else◌, List, [], ◌∷◌, ◌++◌, map, length, codes, Option}
+use Rattle.std.specs.Prelude.{◌≡◌, ◌≢◌, ◌↔◌, ◌⊎◌, ◌<◌, ◌==◌, ℕ, ◌+◌, if◌then◌else◌, List, [], ◌∷◌, ◌++◌, map, length, codes, Option, Some, None}
 use Rattle.map_model.specs.MapFile.{report, report_line}
 use Rattle.mf_edge.specs.Device.{Takes, IsAtEnd, Gains, GainsFront, HasRisen}
 use Rattle.pbf_frame.specs.FirstForm.{FirstValue, IsFirstForm, first_bytes, first_limit}
 use Rattle.mfwrite.specs.FirstWords.{FirstWords}
+use Rattle.mfwrite.specs.declared.prepare.Prepared.{Prepared}
+use Rattle.mfwrite.specs.declared.prepare.Prepared.TheVariants.{Ready, Refused}
 use Rattle.mfwrite.specs.declared.prepare.Refusal.{Refusal}
 use Rattle.mfwrite.specs.declared.prepare.Refusal.TheVariants.{NotBuilt, Memory}
 use Rattle.mfwrite.specs.FirstMap.{first_map, first_report}
@@ -30,6 +32,13 @@ status_text status =
 abbrev pub refusal_status : Refusal → ℕ
 refusal_status Memory = 9
 refusal_status NotBuilt = 11
+
+-- ---- what a run begins with
+
+-- What is prepared for words that tell this: their job, or a refusal, which is that they tell none, or that memory is wanting.
+pub record IsPrepared (told : Option FirstWords) (p : Prepared) : Type 0 where
+  pub ready : (job : FirstWords) → p ≡ Ready job → told ≡ Some job
+  pub not_built : (p ≡ Refused NotBuilt) ↔ (told ≡ None)
 
 -- ---- what a run does
 

@@ -1,9 +1,8 @@
 //! What is done before a run: the words are read, and all memory is taken.
 
-ghost use Rattle.std.specs.Prelude.{◌≡◌, ◌↔◌, map, Some, None, string_bytes};
-ghost use Rattle.mfwrite.specs.FirstWords.{FirstWords, first_words as words_told};
-ghost use Rattle.mfwrite.specs.declared.prepare.Prepared.TheVariants.{Ready, Refused};
-ghost use Rattle.mfwrite.specs.declared.prepare.Refusal.TheVariants.{NotBuilt};
+ghost use Rattle.std.specs.Prelude.{map, string_bytes};
+ghost use Rattle.mfwrite.specs.FirstWords.{first_words as words_told};
+ghost use Rattle.mfwrite.specs.FirstRun.{IsPrepared};
 
 use crate::first_words::first_words;
 use crate::job::Job;
@@ -27,8 +26,7 @@ pub enum Prepared {
 
 /// Reads the words of the command line, and takes all the memory that the run will take.
 pub fn prepare(alloc: Global, words: &[String]) -> Prepared
-    ensures ready { (job : FirstWords) → result ≡ Ready job → words_told (map string_bytes words.now) ≡ Some job }
-    ensures not_built { (result ≡ Refused NotBuilt) ↔ (words_told (map string_bytes words.now) ≡ None) }
+    ensures { IsPrepared (words_told (map string_bytes words.now)) result }
 {
     let Some(told) = first_words(words) else {
         return Prepared::Refused(Refusal::NotBuilt);

@@ -4,8 +4,9 @@ ghost use Rattle.std.specs.Prelude.{◌≡◌, ◌≢◌, ◌⊎◌, ℕ, List, 
 ghost use Rattle.mf_edge.specs.Device.{HasRisen};
 ghost use Rattle.pbf_frame.specs.FirstForm.{FirstValue, IsFirstForm, first_bytes};
 ghost use Rattle.mfwrite.specs.FirstWords.{FirstWords, first_words as words_told};
-ghost use Rattle.mfwrite.specs.FirstRun.{Says, IsWritten, IsBegun, IsOther, refusal_status, status_text};
+ghost use Rattle.mfwrite.specs.FirstRun.{Says, IsWritten, IsBegun, IsOther, IsPrepared, refusal_status, status_text};
 ghost use Rattle.mfwrite.specs.declared.prepare.Refusal.{Refusal};
+ghost use Rattle.mfwrite.specs.declared.prepare.Prepared.{Prepared};
 ghost use Rattle.mfwrite.specs.declared.prepare.Prepared.TheVariants.{Ready, Refused};
 
 use crate::job::Job;
@@ -94,6 +95,9 @@ pub fn program<S: Source, K: Sink, E: Sink>(
     output: &mut K,
     say: &mut E,
 ) -> u8
+    // It is `prepare`, and then `run` with its answer.
+    ensures as_run { (p : Prepared) × IsPrepared (words_told (map string_bytes words.now)) p × ((r : Refusal) → p ≡ Refused r → result ≡ refusal_status r) × ((job : FirstWords) → p ≡ Ready job → result ≢ 9) }
+
     // Success comes only where the words tell a job, with its map of the input taken and its report said.
     ensures written { result ≡ 0 → (job : FirstWords) × (words_told (map string_bytes words.now) ≡ Some job) × (v : FirstValue) × IsWritten job v (S.left input.old) (S.left input.new) (K.taken output.old) (K.taken output.new) (E.taken say.old) (E.faults say.old) (E.taken say.new) (E.faults say.new) }
 

@@ -31,3 +31,6 @@ returns-clause-not_built g c = of-not_built c.prepare.result _ _ _ c.prepare.ens
 pub returns-clause-accepted : goal.returns-clause-accepted
 returns-clause-accepted g c = λ job told v form left read write.
     of-accepted c.prepare.result _ job _ told c.prepare.ensures.not_built.0 (λ j is. c.run.ensures.accepted j is v form left read write) (λ r refusal. (c.run.ensures.refused r refusal).0)
+
+pub returns-clause-as_run : goal.returns-clause-as_run
+returns-clause-as_run g c = (c.prepare.result, c.prepare.ensures, (λ r refusal. (c.run.ensures.refused r refusal).0), c.run.ensures.no_memory)
