@@ -87,6 +87,13 @@ impl<'a> Fields<'a> {
         self.rest = &self.rest[size..];
         Ok(Some(field))
     }
+
+    /// The bytes that are left, behind the fields that were given.
+    pub fn left(&self) -> &'a [u8]
+        ensures { result.now ≡ self.now }
+    {
+        self.rest
+    }
 }
 
 // The field that the bytes begin with, and how many bytes it takes.
