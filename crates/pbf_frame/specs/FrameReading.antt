@@ -1,0 +1,69 @@
+-- What the reader of blobs tells of the bytes that it took from a source. This project's own.
+use Rattle.std.specs.Prelude.{◌≡◌, ◌≢◌, ◌⊎◌, ℕ, ◌+◌, List, [], ◌++◌, length, slice_range, Option, Some, None, option_map, Result, Ok, Err, ⊤}
+use Rattle.mf_edge.specs.Device.{Takes, IsAtEnd}
+use Rattle.osm_model.specs.Reading.{Reading, all_read, stops_at, then_reads}
+use Rattle.osm_model.specs.Frames as model
+use Rattle.osm_model.specs.Frames.{Content, header, primitive, unread, header_limit, offset_limit, SpellsFrame, FrameFaultAt, raw_bytes, frame_front, frames_at, known_frames, PassesOver, LeadsTo}
+use Rattle.pbf_frame.specs.declared.frame_fault.NextFault.{NextFault}
+use Rattle.pbf_frame.specs.declared.frame_fault.NextFault.TheVariants as next_fault
+use Rattle.pbf_frame.specs.declared.frame.BlobKind.{BlobKind}
+use Rattle.pbf_frame.specs.declared.frame.BlobKind.TheVariants.{Header, Primitive}
+use Rattle.pbf_frame.specs.declared.frame.Frame.{Frame}
+use Rattle.pbf_frame.specs.BlobSteps.{fault_shown}
+
+-- ---- what was taken
+
+-- Bytes were taken from a source, as many as the offset rose by, and this holds of them.
+pub record Took (before : Option (List ℕ)) (at : ℕ) (Holds : List ℕ → Type 0) (now : Option (List ℕ)) (to : ℕ) : Type 0 where
+  pub bytes : List ℕ
+  pub taken : Takes before bytes now
+  pub counted : to ≡ at + length bytes
+  pub holds : Holds bytes
+
+-- The bytes at this offset, of which there are some, begin with no blob for this fault, whatever follows them, or because the input ends behind them.
+abbrev pub BeginsNoBlob : ℕ → model.FrameFault → Option (List ℕ) → List ℕ → Type 0
+BeginsNoBlob at fault left bytes = (bytes ≢ []) × (((more : List ℕ) → frame_front at (bytes ++ more) ≡ Err fault) ⊎ ((frame_front at bytes ≡ Err fault) × IsAtEnd left))
+
+-- ---- the next blob
+
+-- the raw bytes of a blob that was given are in the block
+abbrev pub content_shown : BlobKind → List ℕ → Content
+content_shown Header raw = header raw
+content_shown Primitive raw = primitive raw
+
+-- the blob that was given, with its raw bytes in the block
+abbrev pub frame_shown : List ℕ → Frame → model.Frame
+frame_shown block f = record { at = f.at; content = content_shown f.kind (slice_range block f.start f.end) }
+
+-- The bytes at this offset are blobs that are passed over, and then some that begin with no blob.
+pub record FailsBehind (at told : ℕ) (fault : model.FrameFault) (left : Option (List ℕ)) (bytes : List ℕ) : Type 0 where
+  pub front : List ℕ
+  pub rest : List ℕ
+  pub whole : bytes ≡ front ++ rest
+  pub passed : PassesOver at front
+  pub place : told ≡ at + length front
+  pub begins : BeginsNoBlob told fault left rest
+
+-- What was taken at this offset: blobs that are passed over, and then the blob that was given, or the end of the input, or what begins with no blob. Where the source failed nothing is said.
+abbrev pub TakesBlobs : Option (List ℕ) → ℕ → List ℕ → Result (Option Frame) NextFault → Option (List ℕ) → ℕ → Type 0
+TakesBlobs before at block (Ok (Some f)) now to = Took before at (λ bytes. LeadsTo at bytes (frame_shown block f)) now to
+TakesBlobs before at block (Ok None) now to = Took before at (λ bytes. PassesOver at bytes × IsAtEnd now) now to
+TakesBlobs before at block (Err (next_fault.Frame told fault)) now to = Took before at (FailsBehind at told (fault_shown fault) now) now to
+TakesBlobs before at block (Err next_fault.Read) now to = ⊤
+
+-- What was answered is the next blob of a known type, or the fault before it, or None at the end of the input. Where the source failed nothing is said.
+abbrev pub IsNext : List ℕ → Result (Option Frame) NextFault → Result (Option model.Frame) FrameFaultAt → Type 0
+IsNext block (Ok found) next = next ≡ Ok (option_map (frame_shown block) found)
+IsNext block (Err (next_fault.Frame at fault)) next = next ≡ Err (record { at = at; fault = fault_shown fault })
+IsNext block (Err next_fault.Read) next = ⊤
+
+-- the blobs of known types in bytes from this offset on, and the first fault
+abbrev pub known_at : ℕ → List ℕ → Reading model.Frame FrameFaultAt
+known_at at bytes = let read = frames_at at bytes in record { items = known_frames read.items; fault = read.fault }
+
+-- Of the blobs that were left the first was given, and the others are left; or none was left, and there is no fault, or this one. Where the source failed nothing is said.
+abbrev pub GivesBlob : List ℕ → Result (Option Frame) NextFault → Reading model.Frame FrameFaultAt → Reading model.Frame FrameFaultAt → Type 0
+GivesBlob block (Ok (Some f)) before now = before ≡ then_reads (frame_shown block f) now
+GivesBlob block (Ok None) before now = before ≡ all_read
+GivesBlob block (Err (next_fault.Frame at fault)) before now = before ≡ stops_at (record { at = at; fault = fault_shown fault })
+GivesBlob block (Err next_fault.Read) before now = ⊤

@@ -1,0 +1,394 @@
+//! The blobs of an input, however it is cut: the OpenStreetMap wiki, "PBF Format", on its file format.
+
+ghost use Rattle.std.specs.Prelude.{◌≡◌, ◌≢◌, ◌↔◌, ℕ, ◌+◌, ◌-◌, ◌*◌, ◌<◌, ◌≤◌, ◌^◌, List, length, IfOk, IfSome, Ok, Err, Some, None};
+ghost use Rattle.mf_edge.specs.Device.{HasRisen};
+ghost use Rattle.osm_model.specs.Frames.{frames_at, next_known, PassesOver};
+ghost use Rattle.pbf_frame.specs.FrameReading.{TakesBlobs, IsNext, GivesBlob, known_at};
+
+use crate::blob_read::{Step, read_blob};
+use crate::frame::Frame;
+use crate::frame_fault::NextFault;
+use mf_edge::{Block, Source, Stream};
+
+/// Gives the blobs of an input.
+#[derive(Clone, Copy, Debug)]
+pub struct Frames;
+
+impl Frames {
+    /// A reader of blobs.
+    pub fn new() -> Frames {
+        Frames
+    }
+
+    /// The next blob whose type is `OSMHeader` or `OSMData`. Its raw bytes are in the block. Blobs of other types are
+    /// passed over, unread. None comes at the end of the input, before a blob.
+    ///
+    /// The block has at least 33,554,432 bytes of room, the longest Blob. The stream is not to be used again after a
+    /// fault.
+    pub fn next<S: Source>(
+        &mut self,
+        src: &mut Stream<S>,
+        block: &mut Block,
+    ) -> Result<Option<Frame>, NextFault>
+        requires room { 33554432 ≤ block.old.capacity }
+        requires offset { src.old.offset < 2 ^ 63 - 1 }
+
+        // Over every source, also one that does not tell its bytes.
+        ensures takes { TakesBlobs (S.left src.old.source.now) src.old.offset block.new.bytes result (S.left src.new.source.now) src.new.offset }
+
+        // Over a source that tells its bytes: what comes next, exactly, and what is left to come.
+        ensures next { (all : List ℕ) → S.left src.old.source.now ≡ Some all → IsNext block.new.bytes result (next_known (frames_at src.old.offset all)) }
+        ensures in_order { (all rest : List ℕ) → S.left src.old.source.now ≡ Some all → S.left src.new.source.now ≡ Some rest → GivesBlob block.new.bytes result (known_at src.old.offset all) (known_at src.new.offset rest) }
+        ensures end { (all : List ℕ) → S.left src.old.source.now ≡ Some all → result ≢ Err NextFault.Read → ((result ≡ Ok None) ↔ PassesOver src.old.offset all) }
+
+        ensures read { result ≡ Err NextFault.Read → HasRisen (S.faults src.old.source.now) (S.faults src.new.source.now) }
+        ensures place { IfOk result (λ next. IfSome next (λ f. (f.start ≤ f.end) × (f.end ≤ length block.new.bytes))) }
+        ensures below { IfOk result (λ next. IfSome next (λ _. src.new.offset < 2 ^ 62 + 2 ^ 26)) }
+
+        // No blob begins at 2^62 or later: of such a place one byte is read.
+        ensures near { src.old.offset < 2 ^ 62 → src.new.offset < 2 ^ 62 + 2 ^ 26 }
+        ensures far { 2 ^ 62 ≤ src.old.offset → src.new.offset ≤ src.old.offset + 1 }
+        ensures rises { src.old.offset ≤ src.new.offset }
+
+        // Two reads for each byte that was taken, and those of one blob more.
+        ensures reads { S.reads src.new.source.now + 2 * src.old.offset ≤ S.reads src.old.source.now + 2 * src.new.offset + 2 ^ 26 }
+        ensures counts { S.faults src.old.source.now ≤ S.faults src.new.source.now }
+        ensures capacity { block.new.capacity ≡ block.old.capacity }
+        ensures same_reference { src.new.source.ghost_name ≡ src.old.source.ghost_name }
+    {
+        next_blob(src, block)
+    }
+}
+
+// The next blob of a type that is read.
+fn next_blob<S: Source>(src: &mut Stream<S>, block: &mut Block) -> Result<Option<Frame>, NextFault>
+    requires room { 33554432 ≤ block.old.capacity }
+    requires offset { src.old.offset < 2 ^ 63 - 1 }
+    ensures takes { TakesBlobs (S.left src.old.source.now) src.old.offset block.new.bytes result (S.left src.new.source.now) src.new.offset }
+
+    ensures read { result ≡ Err NextFault.Read → HasRisen (S.faults src.old.source.now) (S.faults src.new.source.now) }
+    ensures place { IfOk result (λ next. IfSome next (λ f. (f.start ≤ f.end) × (f.end ≤ length block.new.bytes))) }
+    ensures below { IfOk result (λ next. IfSome next (λ _. src.new.offset < 2 ^ 62 + 2 ^ 26)) }
+
+    ensures near { src.old.offset < 2 ^ 62 → src.new.offset < 2 ^ 62 + 2 ^ 26 }
+    ensures far { 2 ^ 62 ≤ src.old.offset → src.new.offset ≤ src.old.offset + 1 }
+    ensures rises { src.old.offset ≤ src.new.offset }
+
+    ensures reads { S.reads src.new.source.now + 2 * src.old.offset ≤ S.reads src.old.source.now + 2 * src.new.offset + 2 ^ 26 }
+    ensures counts { S.faults src.old.source.now ≤ S.faults src.new.source.now }
+    ensures capacity { block.new.capacity ≡ block.old.capacity }
+    ensures same_reference { src.new.source.ghost_name ≡ src.old.source.ghost_name }
+{
+    loop {
+        match read_blob(src, block)? {
+            Step::Passed => {}
+            Step::Kept(frame) => return Ok(Some(frame)),
+            Step::End => return Ok(None),
+        }
+    }
+}
+
+#[cfg(test)]
+mod tests {
+    use super::Frames;
+    use crate::frame::{BlobKind, Frame};
+    use crate::frame_fault::{FrameFault, NextFault};
+    use mf_edge::{Block, MemSource, Source, Stream, SureSource};
+    use pbf_wire::check::MessageFault;
+    use pbf_wire::fields::WireFault;
+    use std::alloc::{AllocError, Global};
+    use std::test::Fail;
+
+    // The room of a block: the longest Blob.
+    const ROOM: usize = 33_554_432;
+
+    // What the reader gave, a line for each blob, and the fault at the end.
+    #[derive(Drop)]
+    struct Seen {
+        blobs: String,
+        fault: Option<NextFault>,
+    }
+
+    // A line for a blob, with the number of its raw bytes and the first three of them.
+    fn line(alloc: Global, frame: Frame, block: &Block) -> Result<String, AllocError>
+        requires order { frame.start ≤ frame.end }
+        requires within { frame.end ≤ length block.now.bytes }
+    {
+        let raw = &block.bytes()[frame.start..frame.end];
+        let first = &raw[..raw.len().min(3)];
+        format!(in alloc;
+            "{:?} at {}, {}: {:?}\n",
+            frame.kind,
+            frame.at,
+            raw.len(),
+            first
+        )
+    }
+
+    // What the reader gives of a source, of at most ten blobs.
+    fn answers_of<S: Source>(
+        alloc: Global,
+        source: &mut S,
+        block: &mut Block,
+    ) -> Result<Seen, AllocError>
+        requires room { 33554432 ≤ block.old.capacity }
+        ensures room { block.new.capacity ≡ block.old.capacity }
+    {
+        let mut blobs = String::new(alloc);
+        let mut stream = Stream::new(source);
+        let mut frames = Frames::new();
+        for _ in 0..10 {
+            match frames.next(&mut stream, block) {
+                Ok(Some(frame)) => blobs.push_str(&line(alloc, frame, block)?)?,
+                Ok(None) => return Ok(Seen { blobs, fault: None }),
+                Err(fault) => {
+                    return Ok(Seen {
+                        blobs,
+                        fault: Some(fault),
+                    });
+                }
+            }
+        }
+        Ok(Seen { blobs, fault: None })
+    }
+
+    // A blob of 11 bytes of a type that is passed over, and blobs of 20 and 18 bytes with the raw bytes H and A.
+    const OTHER: &[u8] = b"\0\0\0\x05\x0A\x01X\x18\x02ab";
+
+    const HEADER: &[u8] = b"\0\0\0\x0D\x0A\x09OSMHeader\x18\x03\x0A\x01H";
+
+    const DATA: &[u8] = b"\0\0\0\x0B\x0A\x07OSMData\x18\x03\x0A\x01A";
+
+    // Blobs, and what is given of them.
+    const BLOBS: [(&[&[u8]], &str); 9] = [
+        (&[], ""),
+        (&[OTHER], ""),
+        (&[OTHER, OTHER], ""),
+        (&[HEADER], "Header at 0, 1: [72]\n"),
+        (
+            &[DATA, HEADER],
+            "Primitive at 0, 1: [65]\nHeader at 18, 1: [72]\n",
+        ),
+        (
+            &[OTHER, HEADER, OTHER, OTHER, DATA, OTHER],
+            "Header at 11, 1: [72]\nPrimitive at 53, 1: [65]\n",
+        ),
+        // No raw bytes; a raw_size that fits, of which the last counts; fields that are in no table.
+        (
+            &[b"\0\0\0\x0B\x0A\x07OSMData\x18\x02\x0A\x00"],
+            "Primitive at 0, 0: []\n",
+        ),
+        (
+            &[b"\0\0\0\x0B\x0A\x07OSMData\x18\x09\x10\x05\x0A\x03abc\x10\x03"],
+            "Primitive at 0, 3: [97, 98, 99]\n",
+        ),
+        // The last datasize counts, and the first field of a header may be any.
+        (
+            &[b"\0\0\0\x0F\x18\x63\x0A\x07OSMData\x12\x00\x18\x05\x40\x07\x0A\x01A"],
+            "Primitive at 0, 1: [65]\n",
+        ),
+    ];
+
+    #[test]
+    fn blobs_in_order(rt: HostRuntime) -> Result<(), Fail> {
+        let mut block = Block::new(rt.alloc(), ROOM)?;
+        for (blobs, want) in BLOBS {
+            let bytes = blobs.concat(rt.alloc())?;
+            for piece in [1, 100] {
+                assert!(rt; piece > 0);
+                let mut source = SureSource::new(rt.alloc(), &bytes, piece)?;
+                let seen = answers_of(rt.alloc(), &mut source, &mut block)?;
+                assert_eq!(rt;
+                    seen.blobs.as_str(),
+                    want,
+                    "of {bytes:?} in pieces of {piece}"
+                );
+                assert_eq!(rt; seen.fault, None, "of {bytes:?} in pieces of {piece}");
+            }
+        }
+        Ok(())
+    }
+
+    // Bytes that begin with no blob, and the first cause, in the order of the steps; of causes that stand together the one that counts.
+    const FAULTS: [(&[u8], FrameFault); 43] = [
+        // The length is cut.
+        (b"\0", FrameFault::Truncated { have: 1 }),
+        (b"\0\x01", FrameFault::Truncated { have: 2 }),
+        (b"\xFF\xFF\xFF", FrameFault::Truncated { have: 3 }),
+        // The length is above 65,535, also where nothing follows.
+        (b"\0\x01\0\0", FrameFault::HeaderLength),
+        (b"\0\x01\0\0\x0A", FrameFault::HeaderLength),
+        (b"\xFF\xFF\xFF\xFF", FrameFault::HeaderLength),
+        // The BlobHeader is cut.
+        (b"\0\0\0\x05", FrameFault::Truncated { have: 0 }),
+        (b"\0\0\xFF\xFF\x0B", FrameFault::Truncated { have: 1 }),
+        (
+            b"\0\0\0\x05\x0A\x01X\x18",
+            FrameFault::Truncated { have: 4 },
+        ),
+        // The BlobHeader is no message, or breaks its table.
+        (b"\0\0\0\x01\x0B", FrameFault::HeaderWire(KIND)),
+        (
+            b"\0\0\0\x0B\x18\x80\x80\x80\x80\x80\x80\x80\x80\x80\x02",
+            FrameFault::HeaderWire(VARINT),
+        ),
+        (b"\0\0\0\x03\x0A\x05X", FrameFault::HeaderWire(LENGTH)),
+        (
+            b"\0\0\0\x08\x0A\x01X\x0A\x01X\x18\x00",
+            FrameFault::HeaderWire(MessageFault::Twice { field: 1 }),
+        ),
+        (
+            b"\0\0\0\x05\x0A\x01X\x1A\x00",
+            FrameFault::HeaderWire(MessageFault::Form { field: 3 }),
+        ),
+        (b"\0\0\0\x06\x18\xFF\xFF\xFF\xFF\x7F", FrameFault::NoKind),
+        // The BlobHeader has no type, or no datasize.
+        (b"\0\0\0\0", FrameFault::NoKind),
+        (b"\0\0\0\x02\x18\x00", FrameFault::NoKind),
+        (b"\0\0\0\x03\x0A\x01X", FrameFault::NoSize),
+        (b"\0\0\0\x09\x0A\x07OSMData", FrameFault::NoSize),
+        // The datasize is above 33,554,432, also by far; nothing follows.
+        (
+            b"\0\0\0\x08\x0A\x01X\x18\x81\x80\x80\x10",
+            FrameFault::BlobSize,
+        ),
+        (
+            b"\0\0\0\x16\x0A\x09OSMHeader\x18\xFF\xFF\xFF\xFF\xFF\xFF\xFF\xFF\xFF\x01",
+            FrameFault::BlobSize,
+        ),
+        // The Blob is cut, also one of a type that is passed over.
+        (
+            b"\0\0\0\x05\x0A\x01X\x18\x05\0\0\0",
+            FrameFault::Truncated { have: 3 },
+        ),
+        (
+            b"\0\0\0\x08\x0A\x01X\x18\x80\x80\x80\x10",
+            FrameFault::Truncated { have: 0 },
+        ),
+        (
+            b"\0\0\0\x0B\x0A\x07OSMData\x18\x05\x0A\x01",
+            FrameFault::Truncated { have: 2 },
+        ),
+        (
+            b"\0\0\0\x0D\x0A\x09OSMHeader\x18\x05\x0B\0\0\0",
+            FrameFault::Truncated { have: 4 },
+        ),
+        // The Blob is no message, or breaks its table.
+        (
+            b"\0\0\0\x0B\x0A\x07OSMData\x18\x01\x0B",
+            FrameFault::BlobWire(KIND),
+        ),
+        (
+            b"\0\0\0\x0D\x0A\x09OSMHeader\x18\x01\x80",
+            FrameFault::BlobWire(VARINT),
+        ),
+        (
+            b"\0\0\0\x0B\x0A\x07OSMData\x18\x03\x0A\x05A",
+            FrameFault::BlobWire(LENGTH),
+        ),
+        (
+            b"\0\0\0\x0B\x0A\x07OSMData\x18\x06\x0A\x01A\x0A\x01A",
+            FrameFault::BlobWire(MessageFault::Twice { field: 1 }),
+        ),
+        (
+            b"\0\0\0\x0B\x0A\x07OSMData\x18\x02\x18\x00",
+            FrameFault::BlobWire(MessageFault::Form { field: 3 }),
+        ),
+        (
+            b"\0\0\0\x0B\x0A\x07OSMData\x18\x03\x1A\x00\x0B",
+            FrameFault::BlobWire(KIND),
+        ),
+        // Compressed data of each kind; the first field counts, and it comes before that there is no raw data.
+        (
+            b"\0\0\0\x0B\x0A\x07OSMData\x18\x02\x1A\x00",
+            FrameFault::Compressed { field: 3 },
+        ),
+        (
+            b"\0\0\0\x0B\x0A\x07OSMData\x18\x02\x22\x00",
+            FrameFault::Compressed { field: 4 },
+        ),
+        (
+            b"\0\0\0\x0B\x0A\x07OSMData\x18\x02\x2A\x00",
+            FrameFault::Compressed { field: 5 },
+        ),
+        (
+            b"\0\0\0\x0B\x0A\x07OSMData\x18\x02\x32\x00",
+            FrameFault::Compressed { field: 6 },
+        ),
+        (
+            b"\0\0\0\x0D\x0A\x09OSMHeader\x18\x02\x3A\x00",
+            FrameFault::Compressed { field: 7 },
+        ),
+        (
+            b"\0\0\0\x0D\x0A\x09OSMHeader\x18\x07\x0A\x01A\x3A\x00\x1A\x00",
+            FrameFault::Compressed { field: 7 },
+        ),
+        (
+            b"\0\0\0\x0B\x0A\x07OSMData\x18\x07\x10\x05\x0A\x01A\x22\x00",
+            FrameFault::Compressed { field: 4 },
+        ),
+        // The Blob has no raw data.
+        (b"\0\0\0\x0B\x0A\x07OSMData\x18\x00", FrameFault::NoBytes),
+        (
+            b"\0\0\0\x0B\x0A\x07OSMData\x18\x04\x10\x05\x42\x00",
+            FrameFault::NoBytes,
+        ),
+        // raw_size is not the number of raw bytes.
+        (
+            b"\0\0\0\x0B\x0A\x07OSMData\x18\x05\x0A\x01A\x10\x02",
+            FrameFault::RawSize { told: 2, found: 1 },
+        ),
+        (
+            b"\0\0\0\x0D\x0A\x09OSMHeader\x18\x04\x10\x01\x0A\x00",
+            FrameFault::RawSize { told: 1, found: 0 },
+        ),
+        (
+            b"\0\0\0\x0B\x0A\x07OSMData\x18\x07\x10\x01\x0A\x01A\x10\x00",
+            FrameFault::RawSize { told: 0, found: 1 },
+        ),
+    ];
+
+    const VARINT: MessageFault = MessageFault::Wire(WireFault::Varint);
+
+    const KIND: MessageFault = MessageFault::Wire(WireFault::Kind);
+
+    const LENGTH: MessageFault = MessageFault::Wire(WireFault::Length);
+
+    // Blobs before the fault, and what is given of them.
+    const FRONTS: [(&[&[u8]], &str); 3] = [
+        (&[], ""),
+        (&[OTHER], ""),
+        (
+            &[HEADER, OTHER, DATA],
+            "Header at 0, 1: [72]\nPrimitive at 31, 1: [65]\n",
+        ),
+    ];
+
+    #[test]
+    fn faults(rt: HostRuntime) -> Result<(), Fail> {
+        let mut block = Block::new(rt.alloc(), ROOM)?;
+        for (blobs, want) in FRONTS {
+            for (rest, fault) in FAULTS {
+                let front = blobs.concat(rt.alloc())?;
+                let at = front.len() as u64;
+                let bytes = [&front, rest].concat(rt.alloc())?;
+                for piece in [1, 100] {
+                    assert!(rt; piece > 0);
+                    let mut source = SureSource::new(rt.alloc(), &bytes, piece)?;
+                    let seen = answers_of(rt.alloc(), &mut source, &mut block)?;
+                    assert_eq!(rt;
+                        seen.blobs.as_str(),
+                        want,
+                        "of {bytes:?} in pieces of {piece}"
+                    );
+                    assert_eq!(rt;
+                        seen.fault,
+                        Some(NextFault::Frame { at, fault }),
+                        "of {bytes:?} in pieces of {piece}"
+                    );
+                }
+            }
+        }
+        Ok(())
+    }
+}
