@@ -86,11 +86,14 @@ gives-blob before now at to block all rest (Err next_fault.Read) h e is = tt
 
 -- ---- the end
 
+end_whole : (at : ℕ) (all bytes rest : List ℕ) → PassesOver at bytes → all ≡ bytes ++ rest → rest ≡ [] → PassesOver at all
+end_whole at all bytes rest h whole none = subst (PassesOver at) (sym (whole ∙ ap (λ b. bytes ++ b) none ∙ append-nil bytes)) h
+
 pub end-passes : (before now : Option (List ℕ)) (at to : ℕ) (block all : List ℕ) (r : Result (Option given.Frame) NextFault) → TakesBlobs before at block r now to → before ≡ Some all → r ≡ Ok None → PassesOver at all
 end-passes before now at to block all r h e none =
     let ended = rw none at h in
     let (rest, is, whole) = left_told all ended.bytes now (rw e at ended.taken) in
-    subst (PassesOver at) (sym (whole ∙ ap (λ b. ended.bytes ++ b) (at_end now rest is ended.holds.1) ∙ append-nil ended.bytes)) ended.holds.0
+    end_whole at all ended.bytes rest ended.holds.0 whole (at_end now rest is ended.holds.1)
 
 none_next : (at : ℕ) (all : List ℕ) → PassesOver at all → next_known (frames_at at all) ≡ Ok None
 none_next at all h = ap (λ b. next_known (frames_at at b)) (sym (append-nil all)) ∙ passes at all [] h ∙ ap next_known (frames-nil (at + length all))

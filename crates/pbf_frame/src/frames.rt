@@ -189,22 +189,40 @@ mod tests {
         ),
     ];
 
+    // What the reader gives of blobs and what follows them, in pieces of so many bytes.
+    fn answers_in_pieces(
+        alloc: Global,
+        blobs: &[&[u8]],
+        rest: &[u8],
+        piece: usize,
+        block: &mut Block,
+    ) -> Result<Seen, AllocError>
+        requires piece { 0 < piece }
+        requires room { 33554432 ≤ block.old.capacity }
+        ensures room { block.new.capacity ≡ block.old.capacity }
+    {
+        let mut bytes = blobs.concat(alloc)?;
+        bytes.extend_from_slice(rest)?;
+        let mut source = SureSource::new(alloc, &bytes, piece)?;
+        answers_of(alloc, &mut source, block)
+    }
+
     #[test]
     fn blobs_in_order(rt: HostRuntime) -> Result<(), Fail> {
         let mut block = Block::new(rt.alloc(), ROOM)?;
         for (blobs, want) in BLOBS {
-            let bytes = blobs.concat(rt.alloc())?;
-            for piece in [1, 100] {
-                assert!(rt; piece > 0);
-                let mut source = SureSource::new(rt.alloc(), &bytes, piece)?;
-                let seen = answers_of(rt.alloc(), &mut source, &mut block)?;
-                assert_eq!(rt;
-                    seen.blobs.as_str(),
-                    want,
-                    "of {bytes:?} in pieces of {piece}"
-                );
-                assert_eq!(rt; seen.fault, None, "of {bytes:?} in pieces of {piece}");
-            }
+            let whole = answers_in_pieces(rt.alloc(), blobs, b"", 100, &mut block)?;
+            assert_eq!(rt;
+                (whole.blobs.as_str(), whole.fault),
+                (want, None),
+                "of {blobs:?}"
+            );
+            let pieces = answers_in_pieces(rt.alloc(), blobs, b"", 1, &mut block)?;
+            assert_eq!(rt;
+                (pieces.blobs.as_str(), pieces.fault),
+                (want, None),
+                "of {blobs:?} in pieces"
+            );
         }
         Ok(())
     }
@@ -354,40 +372,135 @@ mod tests {
 
     const LENGTH: MessageFault = MessageFault::Wire(WireFault::Length);
 
-    // Blobs before the fault, and what is given of them.
-    const FRONTS: [(&[&[u8]], &str); 3] = [
-        (&[], ""),
-        (&[OTHER], ""),
-        (
-            &[HEADER, OTHER, DATA],
-            "Header at 0, 1: [72]\nPrimitive at 31, 1: [65]\n",
-        ),
-    ];
+    // The first fault of `FAULTS` that is told otherwise behind these blobs, of which these lines are given.
+    fn wrong_behind(
+        alloc: Global,
+        blobs: &[&[u8]],
+        at: u64,
+        want: &str,
+    ) -> Result<Option<FrameFault>, AllocError> {
+        let mut block = Block::new(alloc, ROOM)?;
+        for (rest, fault) in FAULTS {
+            let told = (want, Some(NextFault::Frame { at, fault }));
+            let whole = answers_in_pieces(alloc, blobs, rest, 100, &mut block)?;
+            let pieces = answers_in_pieces(alloc, blobs, rest, 1, &mut block)?;
+            if (whole.blobs.as_str(), whole.fault) != told
+                || (pieces.blobs.as_str(), pieces.fault) != told
+            {
+                return Ok(Some(fault));
+            }
+        }
+        Ok(None)
+    }
 
     #[test]
     fn faults(rt: HostRuntime) -> Result<(), Fail> {
+        assert_eq!(rt; wrong_behind(rt.alloc(), &[], 0, "")?, None);
+        let given = "Header at 0, 1: [72]\nPrimitive at 31, 1: [65]\n";
+        let blobs = [HEADER, OTHER, DATA, OTHER];
+        assert_eq!(rt; wrong_behind(rt.alloc(), &blobs, 60, given)?, None);
+        Ok(())
+    }
+
+    // Bytes, how many bytes of 0 follow, then more bytes; and what is given. The limits of a BlobHeader and a Blob, and one more.
+    const LONGEST: [(&[u8], usize, &[u8], &str, Option<FrameFault>); 5] = [
+        (
+            b"\0\0\xFF\xFF\x0A\x07OSMData\x18\x03\x12\xF0\xFF\x03",
+            65520,
+            b"\x0A\x01A",
+            "Primitive at 0, 1: [65]\n",
+            None,
+        ),
+        (
+            b"\0\x01\0\0\x0A\x07OSMData\x18\x03\x12\xF1\xFF\x03",
+            65521,
+            b"\x0A\x01A",
+            "",
+            Some(FrameFault::HeaderLength),
+        ),
+        (
+            b"\0\0\0\x0E\x0A\x07OSMData\x18\x80\x80\x80\x10\x0A\xFB\xFF\xFF\x0F",
+            33554427,
+            b"",
+            "Primitive at 0, 33554427: [0, 0, 0]\n",
+            None,
+        ),
+        (
+            b"\0\0\0\x08\x0A\x01X\x18\x80\x80\x80\x10",
+            33554432,
+            DATA,
+            "Primitive at 33554444, 1: [65]\n",
+            None,
+        ),
+        (
+            b"\0\0\0\x0E\x0A\x07OSMData\x18\x81\x80\x80\x10\x0A\xFC\xFF\xFF\x0F",
+            33554428,
+            b"",
+            "",
+            Some(FrameFault::BlobSize),
+        ),
+    ];
+
+    // What the reader gives of bytes with so many bytes of 0 between them.
+    fn answers_around_zeros(
+        alloc: Global,
+        front: &[u8],
+        zeros: usize,
+        rest: &[u8],
+        block: &mut Block,
+    ) -> Result<Seen, AllocError>
+        requires room { 33554432 ≤ block.old.capacity }
+        ensures room { block.new.capacity ≡ block.old.capacity }
+    {
+        let zeros = vec![in alloc; 0; zeros]?;
+        let mut bytes = Vec::from_slice(alloc, front)?;
+        bytes.extend_from_slice(&zeros)?;
+        bytes.extend_from_slice(rest)?;
+        let mut source = SureSource::new(alloc, &bytes, 1000000)?;
+        answers_of(alloc, &mut source, block)
+    }
+
+    #[test]
+    fn the_longest(rt: HostRuntime) -> Result<(), Fail> {
         let mut block = Block::new(rt.alloc(), ROOM)?;
-        for (blobs, want) in FRONTS {
-            for (rest, fault) in FAULTS {
-                let front = blobs.concat(rt.alloc())?;
-                let at = front.len() as u64;
-                let bytes = [&front, rest].concat(rt.alloc())?;
-                for piece in [1, 100] {
-                    assert!(rt; piece > 0);
-                    let mut source = SureSource::new(rt.alloc(), &bytes, piece)?;
-                    let seen = answers_of(rt.alloc(), &mut source, &mut block)?;
-                    assert_eq!(rt;
-                        seen.blobs.as_str(),
-                        want,
-                        "of {bytes:?} in pieces of {piece}"
-                    );
-                    assert_eq!(rt;
-                        seen.fault,
-                        Some(NextFault::Frame { at, fault }),
-                        "of {bytes:?} in pieces of {piece}"
-                    );
-                }
-            }
+        for (front, zeros, rest, want, fault) in LONGEST {
+            let seen = answers_around_zeros(rt.alloc(), front, zeros, rest, &mut block)?;
+            let told = fault.map(|fault| NextFault::Frame { at: 0, fault });
+            assert_eq!(rt;
+                (seen.blobs.as_str(), seen.fault),
+                (want, told),
+                "of {front:?}"
+            );
+        }
+        Ok(())
+    }
+
+    // What is given of a blob of each type, in pieces of one byte, where the read of this number fails.
+    fn answers_to_a_failure(alloc: Global, read: u64, block: &mut Block) -> Result<Seen, AllocError>
+        requires room { 33554432 ≤ block.old.capacity }
+        ensures room { block.new.capacity ≡ block.old.capacity }
+    {
+        let bytes = [OTHER, DATA, HEADER].concat(alloc)?;
+        let mut source = MemSource::new(alloc, &bytes, 1, &[read])?;
+        answers_of(alloc, &mut source, block)
+    }
+
+    // The blobs have 11, 18 and 20 bytes, each of which is one read, and the end of the input is one more.
+    #[test]
+    fn a_read_fails_in_each_place(rt: HostRuntime) -> Result<(), Fail> {
+        let mut block = Block::new(rt.alloc(), ROOM)?;
+        for read in 1..51 {
+            let seen = answers_to_a_failure(rt.alloc(), read, &mut block)?;
+            let want = match read {
+                0..30 => "",
+                30..50 => "Primitive at 11, 1: [65]\n",
+                _ => "Primitive at 11, 1: [65]\nHeader at 29, 1: [72]\n",
+            };
+            assert_eq!(rt;
+                (seen.blobs.as_str(), seen.fault),
+                (want, Some(NextFault::Read)),
+                "at {read}"
+            );
         }
         Ok(())
     }
