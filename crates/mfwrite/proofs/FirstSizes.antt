@@ -44,11 +44,23 @@ nodes-long nodes =
     let first = bytes_field 1 (delta_column ids) in
     let second = bytes_field 8 (delta_column lats) in
     let third = bytes_field 9 (delta_column lons) in
-    omega (arith, parts-long nodes, field-long 10 parts,
-      column-long (pos 0) ids, field-long 1 (delta_column ids), length-map_of (λ (n : StoredNode). pos n.id) nodes,
-      column-long (pos 0) lats, field-long 8 (delta_column lats), length-map_of (λ (n : StoredNode). n.lat) nodes,
-      column-long (pos 0) lons, field-long 9 (delta_column lons), length-map_of (λ (n : StoredNode). n.lon) nodes,
-      length-append first second, length-append (first ++ second) third, length-append ((first ++ second) ++ third) (bytes_field 10 parts))
+    omega (
+      arith,
+      parts-long nodes,
+      field-long 10 parts,
+      column-long (pos 0) ids,
+      field-long 1 (delta_column ids),
+      length-map_of (λ (n : StoredNode). pos n.id) nodes,
+      column-long (pos 0) lats,
+      field-long 8 (delta_column lats),
+      length-map_of (λ (n : StoredNode). n.lat) nodes,
+      column-long (pos 0) lons,
+      field-long 9 (delta_column lons),
+      length-map_of (λ (n : StoredNode). n.lon) nodes,
+      length-append first second,
+      length-append (first ++ second) third,
+      length-append ((first ++ second) ++ third) (bytes_field 10 parts),
+    )
 
 blob-long : (kind : Text) (raw : List ℕ) → length raw ≤ length (blob kind raw)
 unfolding blob

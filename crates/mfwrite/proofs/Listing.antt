@@ -32,9 +32,9 @@ next-poi zoom wanted false listed n left is = rw (sym is, append-nil listed) ref
 pub lists-more : (zoom : ℕ) (wanted : Bool) (listed : List FirstPoi) (count : ℕ) (n : FirstNode) (before left : List FirstNode) (pois : List FirstPoi) (nodes : ℕ) → before ≡ n ∷ left
     → Lists zoom wanted listed count before pois nodes → Lists zoom wanted (with_node zoom wanted listed n) (count + 1) left pois nodes
 lists-more zoom wanted listed count n before left pois nodes next h = let counted = rw next at h.counted in record {
-    rest = next-poi zoom wanted (n.tagged && wanted) listed n left refl ∙ (rw next at h.rest);
-    counted = omega (arith, counted);
-  }
+  rest = next-poi zoom wanted (n.tagged && wanted) listed n left refl ∙ (rw next at h.rest);
+  counted = omega (arith, counted);
+}
 
 pub lists-room : (zoom : ℕ) (wanted : Bool) (listed : List FirstPoi) (count : ℕ) (n : FirstNode) (before left : List FirstNode) (pois : List FirstPoi) (nodes : ℕ) → before ≡ n ∷ left
     → Lists zoom wanted listed count before pois nodes → (n.tagged && wanted) ≡ true → length listed < length pois

@@ -57,7 +57,13 @@ pub(crate) fn make_map<S: Source, K: Sink>(
     let Some(value) = first_form(room.block.bytes()) else {
         return Err(Fault::NotBuilt);
     };
-    let counts = spell_map(&mut room.front, &mut room.tile, &mut room.pois, words, &value);
+    let counts = spell_map(
+        &mut room.front,
+        &mut room.tile,
+        &mut room.pois,
+        words,
+        &value,
+    );
     match write_map(output, room.front.bytes(), room.tile.bytes()) {
         Ok(bytes) => Ok(report_of(counts, bytes)),
         Err(Failed) => Err(Fault::Write),

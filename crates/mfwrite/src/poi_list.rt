@@ -11,11 +11,7 @@ use pbf_frame::first_node::FirstNode;
 use tile_body::first_tile::FirstPoi;
 
 /// Lists the nodes of an input that match the entry, and tells how many nodes there are. The list has to be empty.
-pub(crate) fn list_pois(
-    pois: &mut Vec<FirstPoi>,
-    words: &FirstWords,
-    input: &FirstInput,
-) -> u64
+pub(crate) fn list_pois(pois: &mut Vec<FirstPoi>, words: &FirstWords, input: &FirstInput) -> u64
     requires empty { pois.old.items ≡ [] }
     requires room { length (matching (words_shown words.now) input.now) ≤ vec_capacity pois.old }
     requires few { length (nodes_told input.now) < 2 ^ 63 }

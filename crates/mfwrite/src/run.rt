@@ -59,12 +59,7 @@ pub fn run<S: Source, K: Sink, E: Sink>(
 }
 
 // Runs a job, and answers the status.
-fn run_job<S: Source, K: Sink, E: Sink>(
-    job: Job,
-    input: &mut S,
-    output: &mut K,
-    say: &mut E,
-) -> u8
+fn run_job<S: Source, K: Sink, E: Sink>(job: Job, input: &mut S, output: &mut K, say: &mut E) -> u8
     ensures written { result ≡ 0 → (v : FirstValue) × IsWritten job v (S.left input.old) (S.left input.new) (K.taken output.old) (K.taken output.new) (E.taken say.old) (E.faults say.old) (E.taken say.new) (E.faults say.new) }
     ensures device_fault { (result ≡ 6 → HasRisen (S.faults input.old) (S.faults input.new)) × (result ≡ 7 → HasRisen (K.faults output.old) (K.faults output.new)) }
     ensures statuses { (result ≡ 0) ⊎ ((result ≡ 6) ⊎ ((result ≡ 7) ⊎ (result ≡ 11))) }

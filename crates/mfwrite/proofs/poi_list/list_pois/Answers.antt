@@ -7,13 +7,13 @@ use Rattle.mfwrite.proofs.poi_list.list_pois.Goals as goal
 
 pub list_node-requires : goal.list_node-requires
 list_node-requires c = record {
-    room = λ matches.
+  room = λ matches.
       let next : c.loop-node.nodes ≡ c.in-Some.node ∷ c.next.new.self = search rules in
       let short = lists-room _ _ _ _ _ _ _ _ _ next c.loop-node.invariant.0 matches in
       let few = length-map_of (poi_of (words_shown c.args.words.now)) (matching (words_shown c.args.words.now) c.args.input.now) in
       let all = ap length (pois-are (words_shown c.args.words.now) c.args.input.now c.has_tag-wanted.result c.has_tag-wanted.ensures) in
       omega (arith, short, few, all, c.requires.room, c.loop-node.invariant.1);
-  }
+}
 
 pub returns-clause-pois : goal.returns-clause-pois
 returns-clause-pois c =

@@ -9,4 +9,4 @@ pub returns-clause-begun : goal.returns-clause-begun
 returns-clause-begun g c = λ is.
     let words : words_shown c.lent.result ≡ c.args.job = search rules in
     subst (λ w. (v : FirstValue) × IsBegun w v (g.S.Source.left c.args.input.now) (g.S.Source.left c.make_map.new.input) (g.K.Sink.taken c.args.output.now) (g.K.Sink.taken c.make_map.new.output)) words
-      (c.in-Err.ensures.begun (ap Err (write-is c.in-Err.fault (sym c.status.ensures ∙ is))))
+    (c.in-Err.ensures.begun (ap Err (write-is c.in-Err.fault (sym c.status.ensures ∙ is))))
