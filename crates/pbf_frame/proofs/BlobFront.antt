@@ -2,7 +2,7 @@
 use Rattle.std.proofs.Common.{◌≡◌, ◌≢◌, ◌∙◌, ℕ, ◌+◌, ◌<◌, ◌≤◌, List, [], ◌∷◌, ◌++◌, length, drop, refl, sym, ap, subst, arith, inl, inr, Option, Some, None, Result, Ok, Err, append_assoc, length-append}
 use Rattle.std.specs.Prelude.{nat_le, ok_or, IsSome, slice_range}
 use Rattle.std.proofs.lemmas.Bool.{false≢true, lt-ltb, le-ltb, le-leb, lt-leb, leb-true}
-use Rattle.std.proofs.lemmas.List.{take_at, drop_at, take_all}
+use Rattle.std.proofs.lemmas.List.{drop_at, take_all}
 use Rattle.byteorder.specs.Endian.{big_number, big_bytes}
 use Rattle.mf_base.specs.Spelling.{big_endian}
 use Rattle.mf_base.specs.Steps.{◌>>=◌, require, told_as}
@@ -12,7 +12,7 @@ use Rattle.mf_edge.specs.Device.{IsAtEnd}
 use Rattle.osm_model.specs.Tables.{message, blob_header, once_of, number_of}
 use Rattle.osm_model.specs.Frames.{Content, header, primitive, unread, type_of, FrameFault, too_long, truncated, header_length, header_wire, no_type, no_size, blob_size, header_limit, blob_limit, offset_limit, IsBlobHeader, HoldsContent, SpellsFrame, whole_part, raw_bytes, content_in, frame_front}
 use Rattle.osm_model.proofs.TableMessageLaws.{message_found}
-use Rattle.osm_model.proofs.FrameLaws.{raw_found}
+use Rattle.osm_model.proofs.FrameLaws.{part-ok, raw_found}
 use Rattle.pbf_frame.specs.declared.frame_fault.FrameFault as shown
 use Rattle.pbf_frame.specs.declared.frame.BlobKind.{BlobKind}
 use Rattle.pbf_frame.specs.declared.frame.BlobKind.TheVariants.{Header, Primitive}
@@ -60,9 +60,6 @@ head-then : (head : List ℕ) (bytes : List ℕ) (n : ℕ)
     → (head_of head >>= behind_head bytes n) ≡ (told_as header_wire (message blob_header head) >>= λ parts. ok_or (once_of 1 parts) no_type >>= λ kind. ok_or (number_of 3 parts) no_size >>= λ size. require (nat_le size blob_limit) blob_size >>= λ _. behind_head bytes n (kind, size))
 unfolding head_of
 head-then head bytes n = steps4 (told_as header_wire (message blob_header head)) (λ parts. ok_or (once_of 1 parts) no_type) (λ parts. ok_or (number_of 3 parts) no_size) (λ size. require (nat_le size blob_limit) blob_size) (behind_head bytes n)
-
-part-ok : (p q : List ℕ) (n : ℕ) → length p ≡ n → whole_part n (p ++ q) ≡ Ok p
-part-ok p q n size = rw (le-leb n (length (p ++ q)) (omega (arith, size, length-append p q))) (ap Ok (take_at p q n size))
 
 part-cut : (p : List ℕ) (n : ℕ) → length p < n → whole_part n p ≡ Err (truncated (length p))
 part-cut p n short = rw (lt-leb n (length p) short) refl

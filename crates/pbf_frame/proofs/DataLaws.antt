@@ -7,6 +7,7 @@ use Rattle.mf_base.specs.Texts.{Text}
 use Rattle.pbf_frame.specs.declared.stored.StoredNode.{StoredNode}
 use Rattle.pbf_frame.specs.FirstForm.{FirstData, FirstValue, IsFirstData, AreFirstNodes, blob, header_block, string_table, dense_nodes, primitive_block, data_blob, first_bytes}
 use Rattle.pbf_frame.specs.Columns.{ColumnsLeft, whole_columns, column_fields, SpellsNodes, nodes_left, AreNodes}
+use Rattle.pbf_frame.proofs.FirstBlock.{group_for}
 use Rattle.pbf_frame.proofs.Fronts.{some_blob}
 use Rattle.pbf_frame.proofs.NodeLaws.{columns_of, dense-columns, whole-spelled, are-spelled, first-node, behind, none-first}
 use Rattle.pbf_frame.proofs.OneValue.{same_whole}
@@ -59,10 +60,7 @@ table-apart key value = append_assoc (10 ∷ string []) (10 ∷ string key) (10 
 
 -- ---- the block
 
-abbrev pub group_of : List StoredNode → List ℕ
-group_of nodes = 18 ∷ string (dense_nodes nodes)
-
-pub block-apart : (d : FirstData) → primitive_block d ≡ (10 ∷ string (string_table d.key d.value)) ++ (18 ∷ string (group_of d.nodes))
+pub block-apart : (d : FirstData) → primitive_block d ≡ (10 ∷ string (string_table d.key d.value)) ++ (18 ∷ string (group_for d.nodes))
 unfolding primitive_block
 block-apart d = refl
 

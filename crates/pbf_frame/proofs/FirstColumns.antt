@@ -1,12 +1,13 @@
 -- A delta column of the first form is a packed list, and its sums are the numbers that it was made of.
-use Rattle.std.proofs.Common.{◌≡◌, ℕ, zero, suc, ◌+◌, ◌-◌, ◌<◌, ◌≤◌, ◌^◌, List, [], ◌∷◌, length, map, refl, sym, ap, ◌∙◌, arith, inl, inr, true}
-use Rattle.std.specs.Prelude.{ℤ, pos, negsuc, ◌+ℤ◌, ◌-ℤ◌, neg_ℤ, nat_abs}
+use Rattle.std.proofs.Common.{◌≡◌, ℕ, zero, suc, ◌+◌, ◌-◌, ◌<◌, ◌≤◌, ◌^◌, List, [], ◌∷◌, length, map, refl, sym, ap, ◌∙◌, arith, true}
+use Rattle.std.specs.Prelude.{ℤ, pos, ◌+ℤ◌, ◌-ℤ◌, nat_abs}
 use Rattle.std.specs.List.{AllByRecursion}
-use Rattle.std.proofs.Math.IntN.{sub_ℕ}
-use Rattle.std.proofs.lemmas.Bool.{cases_lt, lt-ltb, le-ltb}
+use Rattle.std.proofs.lemmas.Bool.{le-ltb}
+use Rattle.std.proofs.lemmas.Int.{ints}
 use Rattle.std.proofs.lemmas.List.{nil_from_length}
 use Rattle.mf_base.specs.Spelling.{vbe_unsigned, zigzag_of, unzigzag_of}
 use Rattle.mf_base.proofs.NumberLemmas.{zigzag-there}
+use Rattle.mf_base.proofs.SignLaws.{plus_difference}
 use Rattle.osm_model.specs.Wire.{IsPacked, are_varints, packed_numbers}
 use Rattle.osm_model.specs.Objects.{column, column_from}
 use Rattle.osm_model.proofs.ColumnLaws.{length-column, column_from-zero, column_from-cons}
@@ -17,27 +18,9 @@ use Rattle.pbf_frame.proofs.FirstHeader.{zigzag-fits}
 
 -- ---- sizes of differences
 
-sub-abs : (a b : ℕ) → nat_abs (sub_ℕ a b) ≤ a + b
-sub-abs a b =
-    elim (cases_lt a b) [
-      | inl lt ↦ rw (lt-ltb a b lt) (omega (arith, lt))
-      | inr le ↦ rw (le-ltb a b le) (omega (arith, le))
-    ]
-
-sum-abs : (x y : ℤ) → nat_abs (x +ℤ y) ≤ nat_abs x + nat_abs y
-sum-abs (pos a) (pos b) = omega arith
-sum-abs (pos a) (negsuc b) = sub-abs a (suc b)
-sum-abs (negsuc a) (pos b) = omega (arith, sub-abs b (suc a))
-sum-abs (negsuc a) (negsuc b) = omega arith
-
-neg-abs : (y : ℤ) → nat_abs (neg_ℤ y) ≡ nat_abs y
-neg-abs (pos zero) = refl
-neg-abs (pos (suc n)) = refl
-neg-abs (negsuc n) = refl
-
 -- how far apart two numbers can be
 difference-abs : (x y : ℤ) → nat_abs (x -ℤ y) ≤ nat_abs x + nat_abs y
-difference-abs x y = omega (arith, sum-abs x (neg_ℤ y), neg-abs y)
+difference-abs x y = omega (arith, ints)
 
 -- how much a greater number is above a smaller one
 pub rise-is : (n b : ℕ) → b < n → pos n -ℤ pos b ≡ pos (n - b)
@@ -74,14 +57,11 @@ packed-signed zs h = ap (map unzigzag_of) (packed_is (packed zs) (map zigzag_of 
 
 -- ---- sums of differences
 
-difference-back : (z before : ℤ) → before +ℤ (z -ℤ before) ≡ z
-difference-back z before = grind arith
-
 sums-from : (before : ℤ) (zs : List ℤ) → column_from before (differences before zs) ≡ zs
 sums-from before [] = ap (map (λ sum. before +ℤ sum)) (nil_from_length (column []) (length-column []))
 sums-from before (z ∷ zs) =
     column_from-cons before (z -ℤ before) (differences z zs)
-    ∙ ap (λ x. x ∷ column_from x (differences z zs)) (difference-back z before) ∙ ap (λ xs. z ∷ xs) (sums-from z zs)
+    ∙ ap (λ x. x ∷ column_from x (differences z zs)) (plus_difference before z) ∙ ap (λ xs. z ∷ xs) (sums-from z zs)
 
 pub sums-back : (zs : List ℤ) → column (differences (pos 0) zs) ≡ zs
 sums-back zs = sym (column_from-zero (differences (pos 0) zs)) ∙ sums-from (pos 0) zs

@@ -1,8 +1,7 @@
 -- The dense nodes of the first form are objects, each of its id, its place and its tags.
 use Rattle.std.proofs.Common.{◌≡◌, ℕ, ◌-◌, ◌<◌, ◌≤◌, ◌^◌, List, [], ◌∷◌, ◌++◌, length, map, refl, sym, ap, subst, ◌∙◌, arith, true, Ok, Result}
-use Rattle.std.specs.Prelude.{ℤ, pos, negsuc, nat_abs, ◌*ℤ◌, Some, flat_map}
+use Rattle.std.specs.Prelude.{ℤ, pos, negsuc, nat_abs, Some, flat_map}
 use Rattle.std.proofs.lemmas.Bool.{eq-eqb, le-leb}
-use Rattle.std.proofs.lemmas.Int.{unsigned_abs-mul}
 use Rattle.std.proofs.lemmas.List.{append-nil, length-map}
 use Rattle.mf_base.specs.Ranges.{is_signed_64}
 use Rattle.mf_base.specs.Spelling.{zigzag_of}
@@ -18,6 +17,7 @@ use Rattle.pbf_frame.specs.declared.stored.StoredNode.{StoredNode}
 use Rattle.pbf_frame.specs.FirstForm.{FirstData, plain_head, node_told, first_limit, bytes_field, differences, delta_column, dense_nodes, AreFirstNodes}
 use Rattle.pbf_frame.specs.FirstEntities.{entity_told}
 use Rattle.pbf_frame.proofs.Found.{lat-near, lon-near}
+use Rattle.pbf_frame.proofs.NodeLaws.{ids_of, lats_of, lons_of, near}
 use Rattle.pbf_frame.proofs.FirstFields.{bytes_at, spells-bytes, one-field, message-with, field-longer, front-shorter, end-shorter}
 use Rattle.pbf_frame.proofs.FirstColumns.{AreTold, AreNear, rise-is, near-told, packed-whole, packed-signed, sums-back, length-differences}
 use Rattle.pbf_frame.proofs.FirstTags.{keys_vals, run_for, tags-whole, tags-numbers, runs_for, runs-are, run-tags}
@@ -25,45 +25,33 @@ use Rattle.pbf_frame.proofs.FirstBlock.{group_for, block_for, strings_for}
 
 -- ---- the columns
 
-abbrev pub ids_in : List StoredNode → List ℤ
-ids_in nodes = map (λ (n : StoredNode). pos n.id) nodes
-
-abbrev pub lats_in : List StoredNode → List ℤ
-lats_in nodes = map (λ (n : StoredNode). n.lat) nodes
-
-abbrev pub lons_in : List StoredNode → List ℤ
-lons_in nodes = map (λ (n : StoredNode). n.lon) nodes
-
 -- the differences of a column
 abbrev steps : List ℤ → List ℤ
 steps zs = differences (pos 0) zs
 
-hundredth : (z : ℤ) → nat_abs (pos 100 *ℤ z) ≤ 180000000000 → nat_abs z ≤ 1800000000
-hundredth z near = omega (arith, near, unsigned_abs-mul (pos 100) z)
-
 lat-within : (lat lon : ℤ) → is_coordinate plain_head lat lon ≡ true → nat_abs lat ≤ 1800000000
-lat-within lat lon h = hundredth lat (lat-near lat lon h)
+lat-within lat lon h = near lat (lat-near lat lon h)
 
 lon-within : (lat lon : ℤ) → is_coordinate plain_head lat lon ≡ true → nat_abs lon ≤ 1800000000
-lon-within lat lon h = hundredth lon (lon-near lat lon h)
+lon-within lat lon h = near lon (lon-near lat lon h)
 
-lats-near : (before : ℕ) (nodes : List StoredNode) → AreFirstNodes before nodes → AreNear 1800000000 (lats_in nodes)
+lats-near : (before : ℕ) (nodes : List StoredNode) → AreFirstNodes before nodes → AreNear 1800000000 (lats_of nodes)
 lats-near before [] h = tt
 lats-near before (n ∷ nodes) h = (lat-within n.lat n.lon h.2, lats-near n.id nodes h.3)
 
-lons-near : (before : ℕ) (nodes : List StoredNode) → AreFirstNodes before nodes → AreNear 1800000000 (lons_in nodes)
+lons-near : (before : ℕ) (nodes : List StoredNode) → AreFirstNodes before nodes → AreNear 1800000000 (lons_of nodes)
 lons-near before [] h = tt
 lons-near before (n ∷ nodes) h = (lon-within n.lat n.lon h.2, lons-near n.id nodes h.3)
 
-ids-told : (before : ℕ) (nodes : List StoredNode) → AreFirstNodes before nodes → AreTold (differences (pos before) (ids_in nodes))
+ids-told : (before : ℕ) (nodes : List StoredNode) → AreFirstNodes before nodes → AreTold (differences (pos before) (ids_of nodes))
 ids-told before [] h = tt
 ids-told before (n ∷ nodes) h = (subst (λ z. zigzag_of z < 2 ^ 64) (sym (rise-is n.id before h.0)) (omega (arith, h.1)), ids-told n.id nodes h.3)
 
-lats-told : (nodes : List StoredNode) → AreFirstNodes 0 nodes → AreTold (steps (lats_in nodes))
-lats-told nodes h = near-told 1800000000 (pos 0) (lats_in nodes) (omega arith) (omega arith) (lats-near 0 nodes h)
+lats-told : (nodes : List StoredNode) → AreFirstNodes 0 nodes → AreTold (steps (lats_of nodes))
+lats-told nodes h = near-told 1800000000 (pos 0) (lats_of nodes) (omega arith) (omega arith) (lats-near 0 nodes h)
 
-lons-told : (nodes : List StoredNode) → AreFirstNodes 0 nodes → AreTold (steps (lons_in nodes))
-lons-told nodes h = near-told 1800000000 (pos 0) (lons_in nodes) (omega arith) (omega arith) (lons-near 0 nodes h)
+lons-told : (nodes : List StoredNode) → AreFirstNodes 0 nodes → AreTold (steps (lons_of nodes))
+lons-told nodes h = near-told 1800000000 (pos 0) (lons_of nodes) (omega arith) (omega arith) (lons-near 0 nodes h)
 
 -- ---- the DenseNodes message
 
@@ -115,16 +103,16 @@ columns-message ids lats lons tags short fits =
 
 -- the fields of the nodes
 abbrev nodes_at : List StoredNode → List Field
-nodes_at nodes = columns_at (delta_column (ids_in nodes)) (delta_column (lats_in nodes)) (delta_column (lons_in nodes)) (keys_vals nodes)
+nodes_at nodes = columns_at (delta_column (ids_of nodes)) (delta_column (lats_of nodes)) (delta_column (lons_of nodes)) (keys_vals nodes)
 
 nodes-message : (nodes : List StoredNode) → AreFirstNodes 0 nodes → length (dense_nodes nodes) ≤ first_limit → message dense_table (dense_nodes nodes) ≡ Ok (nodes_at nodes)
 unfolding dense_nodes
 nodes-message nodes h short =
-    let ids = delta_column (ids_in nodes) in
-    let lats = delta_column (lats_in nodes) in
-    let lons = delta_column (lons_in nodes) in
+    let ids = delta_column (ids_of nodes) in
+    let lats = delta_column (lats_of nodes) in
+    let lons = delta_column (lons_of nodes) in
     columns-message ids lats lons (keys_vals nodes) (columns-short ids lats lons (keys_vals nodes) short)
-    (columns-fit ids lats lons (keys_vals nodes) (packed-whole (steps (ids_in nodes)) (ids-told 0 nodes h)) (packed-whole (steps (lats_in nodes)) (lats-told nodes h)) (packed-whole (steps (lons_in nodes)) (lons-told nodes h)) (tags-whole nodes))
+    (columns-fit ids lats lons (keys_vals nodes) (packed-whole (steps (ids_of nodes)) (ids-told 0 nodes h)) (packed-whole (steps (lats_of nodes)) (lats-told nodes h)) (packed-whole (steps (lons_of nodes)) (lons-told nodes h)) (tags-whole nodes))
 
 -- ---- the objects
 
@@ -161,11 +149,11 @@ with_runs-cons b n ns run runs = refl
 abbrev pub objects_for : FirstData → List StoredNode → List (Result Object EntityFault)
 objects_for d nodes = map (λ (n : StoredNode). Ok (object_for d n)) nodes
 
-nodes-are : (d : FirstData) (before : ℕ) (nodes : List StoredNode) → AreFirstNodes before nodes → with_runs (block_for d) (zip_three (ids_in nodes) (lats_in nodes) (lons_in nodes)) (runs_for nodes) ≡ objects_for d nodes
+nodes-are : (d : FirstData) (before : ℕ) (nodes : List StoredNode) → AreFirstNodes before nodes → with_runs (block_for d) (zip_three (ids_of nodes) (lats_of nodes) (lons_of nodes)) (runs_for nodes) ≡ objects_for d nodes
 nodes-are d before [] h = with_runs-nil (block_for d)
 nodes-are d before (n ∷ nodes) h =
-    with_runs-cons (block_for d) (pos n.id, n.lat, n.lon) (zip_three (ids_in nodes) (lats_in nodes) (lons_in nodes)) (run_for n.tagged) (runs_for nodes)
-    ∙ ap (λ x. x ∷ with_runs (block_for d) (zip_three (ids_in nodes) (lats_in nodes) (lons_in nodes)) (runs_for nodes)) (dense-node d n h.1 h.2)
+    with_runs-cons (block_for d) (pos n.id, n.lat, n.lon) (zip_three (ids_of nodes) (lats_of nodes) (lons_of nodes)) (run_for n.tagged) (runs_for nodes)
+    ∙ ap (λ x. x ∷ with_runs (block_for d) (zip_three (ids_of nodes) (lats_of nodes) (lons_of nodes)) (runs_for nodes)) (dense-node d n h.1 h.2)
     ∙ ap (λ xs. Ok (object_for d n) ∷ xs) (nodes-are d n.id nodes h.3)
 
 columns-ok : (b : PrimitiveBlock) (ids lats lons : List ℤ) (tags : List ℕ) → length ids ≡ length lats → length ids ≡ length lons → dense_columns b ids lats lons tags ≡ with_runs b (zip_three (column ids) (column lats) (column lons)) (runs_of (length ids) tags)
@@ -175,18 +163,18 @@ columns-ok b ids lats lons tags e f = rw (eq-eqb (length ids) (length lats) e, e
 length-steps : (f : StoredNode → ℤ) (nodes : List StoredNode) → length (steps (map f nodes)) ≡ length nodes
 length-steps f nodes = length-differences (pos 0) (map f nodes) ∙ length-map nodes f
 
-columns-are : (d : FirstData) (nodes : List StoredNode) → AreFirstNodes 0 nodes → dense_columns (block_for d) (steps (ids_in nodes)) (steps (lats_in nodes)) (steps (lons_in nodes)) (keys_vals nodes) ≡ objects_for d nodes
+columns-are : (d : FirstData) (nodes : List StoredNode) → AreFirstNodes 0 nodes → dense_columns (block_for d) (steps (ids_of nodes)) (steps (lats_of nodes)) (steps (lons_of nodes)) (keys_vals nodes) ≡ objects_for d nodes
 columns-are d nodes h =
     let count = length-steps (λ n. pos n.id) nodes in
     let many_lats = count ∙ sym (length-steps (λ n. n.lat) nodes) in
     let many_lons = count ∙ sym (length-steps (λ n. n.lon) nodes) in
     let b = block_for d in
-    columns-ok b (steps (ids_in nodes)) (steps (lats_in nodes)) (steps (lons_in nodes)) (keys_vals nodes) many_lats many_lons
-    ∙ ap (λ xs. with_runs b (zip_three xs (column (steps (lats_in nodes))) (column (steps (lons_in nodes)))) (runs_of (length (steps (ids_in nodes))) (keys_vals nodes))) (sums-back (ids_in nodes))
-    ∙ ap (λ xs. with_runs b (zip_three (ids_in nodes) xs (column (steps (lons_in nodes)))) (runs_of (length (steps (ids_in nodes))) (keys_vals nodes))) (sums-back (lats_in nodes))
-    ∙ ap (λ xs. with_runs b (zip_three (ids_in nodes) (lats_in nodes) xs) (runs_of (length (steps (ids_in nodes))) (keys_vals nodes))) (sums-back (lons_in nodes))
-    ∙ ap (λ k. with_runs b (zip_three (ids_in nodes) (lats_in nodes) (lons_in nodes)) (runs_of k (keys_vals nodes))) count
-    ∙ ap (with_runs b (zip_three (ids_in nodes) (lats_in nodes) (lons_in nodes))) (runs-are nodes)
+    columns-ok b (steps (ids_of nodes)) (steps (lats_of nodes)) (steps (lons_of nodes)) (keys_vals nodes) many_lats many_lons
+    ∙ ap (λ xs. with_runs b (zip_three xs (column (steps (lats_of nodes))) (column (steps (lons_of nodes)))) (runs_of (length (steps (ids_of nodes))) (keys_vals nodes))) (sums-back (ids_of nodes))
+    ∙ ap (λ xs. with_runs b (zip_three (ids_of nodes) xs (column (steps (lons_of nodes)))) (runs_of (length (steps (ids_of nodes))) (keys_vals nodes))) (sums-back (lats_of nodes))
+    ∙ ap (λ xs. with_runs b (zip_three (ids_of nodes) (lats_of nodes) xs) (runs_of (length (steps (ids_of nodes))) (keys_vals nodes))) (sums-back (lons_of nodes))
+    ∙ ap (λ k. with_runs b (zip_three (ids_of nodes) (lats_of nodes) (lons_of nodes)) (runs_of k (keys_vals nodes))) count
+    ∙ ap (with_runs b (zip_three (ids_of nodes) (lats_of nodes) (lons_of nodes))) (runs-are nodes)
     ∙ nodes-are d 0 nodes h
 
 objects-ok : (b : PrimitiveBlock) (bytes : List ℕ) (parts : List Field) → message dense_table bytes ≡ Ok parts → dense_objects b bytes ≡ dense_columns b (signed_of 1 parts) (signed_of 8 parts) (signed_of 9 parts) (packed_of 10 parts)
@@ -197,10 +185,10 @@ dense-are : (d : FirstData) (nodes : List StoredNode) → AreFirstNodes 0 nodes 
 dense-are d nodes h short =
     let b = block_for d in
     objects-ok b (dense_nodes nodes) (nodes_at nodes) (nodes-message nodes h short)
-    ∙ ap (λ xs. dense_columns b xs (signed_of 8 (nodes_at nodes)) (signed_of 9 (nodes_at nodes)) (packed_of 10 (nodes_at nodes))) (packed-signed (steps (ids_in nodes)) (ids-told 0 nodes h))
-    ∙ ap (λ xs. dense_columns b (steps (ids_in nodes)) xs (signed_of 9 (nodes_at nodes)) (packed_of 10 (nodes_at nodes))) (packed-signed (steps (lats_in nodes)) (lats-told nodes h))
-    ∙ ap (λ xs. dense_columns b (steps (ids_in nodes)) (steps (lats_in nodes)) xs (packed_of 10 (nodes_at nodes))) (packed-signed (steps (lons_in nodes)) (lons-told nodes h))
-    ∙ ap (dense_columns b (steps (ids_in nodes)) (steps (lats_in nodes)) (steps (lons_in nodes))) (tags-numbers nodes)
+    ∙ ap (λ xs. dense_columns b xs (signed_of 8 (nodes_at nodes)) (signed_of 9 (nodes_at nodes)) (packed_of 10 (nodes_at nodes))) (packed-signed (steps (ids_of nodes)) (ids-told 0 nodes h))
+    ∙ ap (λ xs. dense_columns b (steps (ids_of nodes)) xs (signed_of 9 (nodes_at nodes)) (packed_of 10 (nodes_at nodes))) (packed-signed (steps (lats_of nodes)) (lats-told nodes h))
+    ∙ ap (λ xs. dense_columns b (steps (ids_of nodes)) (steps (lats_of nodes)) xs (packed_of 10 (nodes_at nodes))) (packed-signed (steps (lons_of nodes)) (lons-told nodes h))
+    ∙ ap (dense_columns b (steps (ids_of nodes)) (steps (lats_of nodes)) (steps (lons_of nodes))) (tags-numbers nodes)
     ∙ columns-are d nodes h
 
 -- ---- the group

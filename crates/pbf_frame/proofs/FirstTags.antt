@@ -45,7 +45,7 @@ part-run false rest = run-closed [] rest tt
 abbrev pub runs_for : List StoredNode → List TagRun
 runs_for nodes = map (λ (n : StoredNode). run_for n.tagged) nodes
 
-tags-runs : (nodes : List StoredNode) → tag_runs (keys_vals nodes) ≡ runs_for nodes
+pub tags-runs : (nodes : List StoredNode) → tag_runs (keys_vals nodes) ≡ runs_for nodes
 unfolding tag_runs
 tags-runs [] = refl
 tags-runs (n ∷ nodes) = part-run n.tagged (keys_vals nodes) ∙ ap (λ runs. run_for n.tagged ∷ runs) (tags-runs nodes)

@@ -1,13 +1,16 @@
 -- What the reader found is the spelling of its answer.
-use Rattle.std.proofs.Common.{◌≡◌, ℕ, zero, suc, ◌-◌, ◌/◌, ◌<◌, ◌≤◌, ◌^◌, true, List, [], ◌∷◌, ◌++◌, length, take, drop, get_or, refl, sym, ap, subst, ◌∙◌, arith, inl, inr}
-use Rattle.std.specs.Prelude.{slice_range, codes, ℤ, pos, negsuc, nat_abs, neg_ℤ, ◌+ℤ◌, ◌*ℤ◌, int_div, FitsSigned}
+use Rattle.std.proofs.Common.{◌≡◌, ℕ, suc, ◌-◌, ◌/◌, ◌<◌, ◌≤◌, ◌^◌, true, List, [], ◌∷◌, ◌++◌, length, take, drop, get_or, refl, sym, ap, subst, ◌∙◌, arith}
+use Rattle.std.specs.Prelude.{slice_range, codes, ℤ, pos, negsuc, nat_abs, ◌+ℤ◌, ◌*ℤ◌, int_div, FitsSigned}
 use Rattle.std.specs.Int.{w32, w64, cast_signed, cast_unsigned}
+use Rattle.std.proofs.Math.IntN.{+ℤ_idl}
 use Rattle.std.proofs.lemmas.Int.{to_z-of_z, fits_signed_from_abs, unsigned_abs-mul}
 use Rattle.std.proofs.lemmas.Str.{is_utf8-from_IsUtf8}
-use Rattle.std.proofs.lemmas.Bool.{cases_lt, and_parts, leb-true}
-use Rattle.std.proofs.lemmas.List.{append-nil, append_assoc, length-take, length-drop, length-append, length-take-le, take_all, take-append-drop, get_or-take, get_or_past}
+use Rattle.std.proofs.lemmas.Bool.{and_parts, leb-true}
+use Rattle.std.proofs.lemmas.List.{append-nil, append_assoc, length-append, length-take-le, take_rest, take-append-drop, get_or-take}
 use Rattle.mf_base.specs.Spelling.{IsVarint, vbe_unsigned, zigzag_of, string, big_endian}
 use Rattle.mf_base.proofs.OneSpelling.{vbe-small}
+use Rattle.mf_base.proofs.ByteLaws.{take-bytes}
+use Rattle.mf_base.proofs.SignLaws.{nat_abs-neg}
 use Rattle.osm_model.specs.Blocks.{is_coordinate, is_within, latitude_limit, longitude_limit, lat_nano, lon_nano, micro, place_of}
 use Rattle.pbf_frame.specs.declared.first_node.FirstNode.{FirstNode}
 use Rattle.pbf_frame.specs.declared.stored.Sides.{Sides}
@@ -17,11 +20,8 @@ use Rattle.pbf_frame.proofs.Shortest.{short-varint, spelled-short}
 
 -- ---- lists
 
-pub whole_rest : (size : ℕ) (bytes : List ℕ) → take (length bytes - size) (drop size bytes) ≡ drop size bytes
-whole_rest size bytes = take_all (length bytes - size) (drop size bytes) (omega (arith, length-drop size bytes))
-
 cut_at : (size : ℕ) (bytes : List ℕ) → bytes ≡ take size bytes ++ take (length bytes - size) (drop size bytes)
-cut_at size bytes = sym (ap (λ (x : List ℕ). take size bytes ++ x) (whole_rest size bytes) ∙ take-append-drop size bytes)
+cut_at size bytes = sym (ap (λ (x : List ℕ). take size bytes ++ x) (take_rest bytes size) ∙ take-append-drop size bytes)
 
 join2 : (a b bytes r : List ℕ) → bytes ≡ a ++ r → r ≡ b → bytes ≡ a ++ b
 join2 a b bytes r e f = e ∙ ap (λ (x : List ℕ). a ++ x) f
@@ -37,20 +37,13 @@ ends a bytes r e f = join2 a [] bytes r e f ∙ append-nil a
 
 -- ---- numbers and counted bytes
 
-take-small : (k : ℕ) (bytes : List ℕ) → ((i : ℕ) → get_or bytes i 0 < 256) → (i : ℕ) → get_or (take k bytes) i 0 < 256
-take-small k bytes small i =
-    elim (cases_lt i k) [
-      | inl lt ↦ rw (get_or-take k bytes i 0 lt) (small i)
-      | inr le ↦ rw (get_or_past (take k bytes) i 0 (omega (arith, length-take k bytes, le))) (omega arith)
-    ]
-
 pub number-found : (bytes : List ℕ) (n size : ℕ) → ((i : ℕ) → get_or bytes i 0 < 256) → 0 < size → size ≤ length bytes → IsVarint n (slice_range bytes 0 size) → (1 < size → 0 < get_or bytes (size - 1) 0) → bytes ≡ vbe_unsigned n ++ take (length bytes - size) (drop size bytes)
 number-found bytes n size small some within v last =
     let same : size - 0 ≡ size = omega arith in
     let read : IsVarint n (take size bytes) = subst (λ (k : ℕ). IsVarint n (take k bytes)) same v in
     let count = length-take-le size bytes within in
     let ends : 0 < size - 1 → 0 < get_or (take size bytes) (size - 1) 0 = λ more. rw (get_or-take size bytes (size - 1) 0 (omega (arith, some))) (last (omega (arith, more))) in
-    let spelled = spelled-short n (take size bytes) (size - 1) (take-small size bytes small) (omega (arith, count, some)) read ends in
+    let spelled = spelled-short n (take size bytes) (size - 1) (take-bytes size bytes small) (omega (arith, count, some)) read ends in
     cut_at size bytes ∙ ap (λ (x : List ℕ). x ++ take (length bytes - size) (drop size bytes)) spelled
 
 pub counted-found : (bytes rest : List ℕ) (size : ℕ) → bytes ≡ vbe_unsigned size ++ rest → size ≤ length rest → bytes ≡ string (take size rest) ++ take (length rest - size) (drop size rest)
@@ -134,13 +127,9 @@ table-found bytes empty r first s second key value e f g none is that =
 
 -- ---- places
 
-abs-neg : (k : ℕ) → nat_abs (neg_ℤ (pos k)) ≡ k
-abs-neg zero = refl
-abs-neg (suc k) = refl
-
 abs-micro : (z : ℤ) → nat_abs z ≤ 180000000000 → nat_abs (int_div z (pos 1000)) ≤ 180000000
 abs-micro (pos m) le = omega (arith, le)
-abs-micro (negsuc m) le = rw (abs-neg (suc m / 1000)) (omega (arith, le))
+abs-micro (negsuc m) le = rw (nat_abs-neg (pos (suc m / 1000))) (omega (arith, le))
 
 micro-code : (z : ℤ) → nat_abs z ≤ 180000000000 → cast_signed w64 (cast_unsigned w64 (int_div (cast_signed w64 (cast_unsigned w64 z)) (pos 1000))) ≡ int_div z (pos 1000)
 micro-code z le =
@@ -157,21 +146,18 @@ micro-fits z le = rw (micro-code z le) (micro-narrow z le)
 pub micro-cast : (z : ℤ) → nat_abs z ≤ 180000000000 → cast_signed w32 (cast_unsigned w32 (cast_signed w64 (cast_unsigned w64 (int_div (cast_signed w64 (cast_unsigned w64 z)) (pos 1000))))) ≡ int_div z (pos 1000)
 micro-cast z le = rw (micro-code z le) (to_z-of_z w32 (int_div z (pos 1000)) (micro-narrow z le))
 
-zero-plus : (z : ℤ) → pos 0 +ℤ z ≡ z
-zero-plus z = grind arith
-
 -- the places of a node in nanodegrees
 pub lat-near : (lat lon : ℤ) → is_coordinate plain_head lat lon ≡ true → nat_abs (pos 100 *ℤ lat) ≤ 180000000000
 lat-near lat lon h =
     let parts = and_parts (is_within latitude_limit (lat_nano plain_head lat)) (is_within longitude_limit (lon_nano plain_head lon)) h in
     let near = leb-true (nat_abs (pos 0 +ℤ pos 100 *ℤ lat)) latitude_limit parts.0 in
-    omega (arith, near, ap nat_abs (zero-plus (pos 100 *ℤ lat)))
+    omega (arith, near, ap nat_abs (+ℤ_idl (pos 100 *ℤ lat)))
 
 pub lon-near : (lat lon : ℤ) → is_coordinate plain_head lat lon ≡ true → nat_abs (pos 100 *ℤ lon) ≤ 180000000000
 lon-near lat lon h =
     let parts = and_parts (is_within latitude_limit (lat_nano plain_head lat)) (is_within longitude_limit (lon_nano plain_head lon)) h in
     let near = leb-true (nat_abs (pos 0 +ℤ pos 100 *ℤ lon)) longitude_limit parts.1 in
-    omega (arith, near, ap nat_abs (zero-plus (pos 100 *ℤ lon)))
+    omega (arith, near, ap nat_abs (+ℤ_idl (pos 100 *ℤ lon)))
 
 kept-is : (z : ℤ) → nat_abs (pos 100 *ℤ z) ≤ 180000000000 → kept z ≡ z
 kept-is z le = to_z-of_z w64 z (fits_signed_from_abs w64 z (omega (arith, le, unsigned_abs-mul (pos 100) z)))
@@ -180,10 +166,10 @@ pub hundred-fits : (z : ℤ) → nat_abs (pos 100 *ℤ z) ≤ 180000000000 → F
 hundred-fits z le = rw (kept-is z le) (fits_signed_from_abs w64 (pos 100 *ℤ z) (omega (arith, le)))
 
 pub hundred-is : (z : ℤ) → nat_abs (pos 100 *ℤ z) ≤ 180000000000 → kept (pos 100 *ℤ kept z) ≡ pos 0 +ℤ pos 100 *ℤ z
-hundred-is z le = rw (kept-is z le) (to_z-of_z w64 (pos 100 *ℤ z) (fits_signed_from_abs w64 (pos 100 *ℤ z) (omega (arith, le))) ∙ sym (zero-plus (pos 100 *ℤ z)))
+hundred-is z le = rw (kept-is z le) (to_z-of_z w64 (pos 100 *ℤ z) (fits_signed_from_abs w64 (pos 100 *ℤ z) (omega (arith, le))) ∙ sym (+ℤ_idl (pos 100 *ℤ z)))
 
 pub hundred-near : (z : ℤ) → nat_abs (pos 100 *ℤ z) ≤ 180000000000 → nat_abs (kept (pos 100 *ℤ kept z)) ≤ 180000000000
-hundred-near z le = omega (arith, le, ap nat_abs (hundred-is z le ∙ zero-plus (pos 100 *ℤ z)))
+hundred-near z le = omega (arith, le, ap nat_abs (hundred-is z le ∙ +ℤ_idl (pos 100 *ℤ z)))
 
 -- ---- parts of facts
 
@@ -197,8 +183,8 @@ fits-as a b n e le = omega (arith, le, ap length e)
 
 kept-micro : (z found : ℤ) → nat_abs (pos 100 *ℤ z) ≤ 180000000000 → found ≡ micro (kept (pos 100 *ℤ kept z)) → cast_signed w32 (cast_unsigned w32 found) ≡ micro (pos 0 +ℤ pos 100 *ℤ z)
 kept-micro z found le e =
-    let is : found ≡ micro (pos 100 *ℤ z) = e ∙ ap micro (hundred-is z le ∙ zero-plus (pos 100 *ℤ z)) in
-    rw (is, zero-plus (pos 100 *ℤ z)) (to_z-of_z w32 (micro (pos 100 *ℤ z)) (micro-narrow (pos 100 *ℤ z) le))
+    let is : found ≡ micro (pos 100 *ℤ z) = e ∙ ap micro (hundred-is z le ∙ +ℤ_idl (pos 100 *ℤ z)) in
+    rw (is, +ℤ_idl (pos 100 *ℤ z)) (to_z-of_z w32 (micro (pos 100 *ℤ z)) (micro-narrow (pos 100 *ℤ z) le))
 
 pub told-is : (n : StoredNode) (lat lon : ℤ) → is_coordinate plain_head n.lat n.lon ≡ true → lat ≡ micro (kept (pos 100 *ℤ kept n.lat)) → lon ≡ micro (kept (pos 100 *ℤ kept n.lon))
     → ◌≡◌ {A = FirstNode} (record { id = n.id; place = record { lat = cast_signed w32 (cast_unsigned w32 lat); lon = cast_signed w32 (cast_unsigned w32 lon) }; tagged = n.tagged }) (node_told n)

@@ -5,6 +5,7 @@ use Rattle.std.proofs.lemmas.List.{append_assoc, append_cancel_left, append-nil,
 use Rattle.mf_base.specs.Spelling.{vbe_unsigned, zigzag_of, unzigzag_of, sevens, first_run, string, big_endian}
 use Rattle.mf_base.proofs.NumberLemmas.{zigzag-there}
 use Rattle.mf_base.proofs.Runs.{first_run-append}
+use Rattle.mf_base.proofs.ByteLaws.{length-big_endian}
 use Rattle.pbf_frame.specs.FirstForm.{blob_header, blob}
 use Rattle.pbf_frame.proofs.Shortest.{short-spelling}
 
@@ -68,10 +69,6 @@ apart4 a b c d = append_assoc (a ++ b) c d ∙ append_assoc a b (c ++ d)
 abbrev blob_size : List ℕ → ℕ
 blob_size raw = length (10 ∷ string raw)
 
-length-big_endian : (n : ℕ) → length (big_endian 4 n) ≡ 4
-unfolding big_endian
-length-big_endian n = refl
-
 -- the header's length stands in four bytes, the type and the size behind it, and then the raw bytes
 blob_apart : (kind raw x : List ℕ) → blob kind raw ++ x ≡ big_endian 4 (length (blob_header kind (blob_size raw))) ++ ((10 ∷ string kind) ++ ((24 ∷ vbe_unsigned (blob_size raw)) ++ ((10 ∷ string raw) ++ x)))
 unfolding blob blob_header
@@ -83,7 +80,7 @@ one_blob kind a b x y e =
     let m : ℕ = length (blob_header kind (blob_size b)) in
     let more : List ℕ = (24 ∷ vbe_unsigned (blob_size a)) ++ ((10 ∷ string a) ++ x) in
     let others : List ℕ = (24 ∷ vbe_unsigned (blob_size b)) ++ ((10 ∷ string b) ++ y) in
-    let headers : (10 ∷ string kind) ++ more ≡ (10 ∷ string kind) ++ others = behind_length (big_endian 4 n) (big_endian 4 m) ((10 ∷ string kind) ++ more) ((10 ∷ string kind) ++ others) (length-big_endian n ∙ sym (length-big_endian m)) (sym (blob_apart kind a x) ∙ e ∙ blob_apart kind b y) in
+    let headers : (10 ∷ string kind) ++ more ≡ (10 ∷ string kind) ++ others = behind_length (big_endian 4 n) (big_endian 4 m) ((10 ∷ string kind) ++ more) ((10 ∷ string kind) ++ others) (length-big_endian 4 n ∙ sym (length-big_endian 4 m)) (sym (blob_apart kind a x) ∙ e ∙ blob_apart kind b y) in
     let sizes : more ≡ others = append_cancel_left (10 ∷ string kind) more others headers in
     let bodies = one_number (blob_size a) (blob_size b) ((10 ∷ string a) ++ x) ((10 ∷ string b) ++ y) (one_behind 24 (vbe_unsigned (blob_size a) ++ ((10 ∷ string a) ++ x)) (vbe_unsigned (blob_size b) ++ ((10 ∷ string b) ++ y)) sizes) in
     one_field 10 a b x y bodies.1
@@ -92,4 +89,4 @@ pub some_blob : (kind raw : List ℕ) → blob kind raw ≡ [] → ⊥
 some_blob kind raw e =
     let n : ℕ = length (blob_header kind (blob_size raw)) in
     let rest : List ℕ = (10 ∷ string kind) ++ ((24 ∷ vbe_unsigned (blob_size raw)) ++ ((10 ∷ string raw) ++ [])) in
-    omega (arith, ap length (sym (blob_apart kind raw []) ∙ append-nil (blob kind raw) ∙ e), length-append (big_endian 4 n) rest, length-big_endian n)
+    omega (arith, ap length (sym (blob_apart kind raw []) ∙ append-nil (blob kind raw) ∙ e), length-append (big_endian 4 n) rest, length-big_endian 4 n)

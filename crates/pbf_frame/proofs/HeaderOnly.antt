@@ -9,6 +9,7 @@ use Rattle.osm_model.specs.Blocks.{is_within, latitude_limit, longitude_limit}
 use Rattle.pbf_frame.specs.declared.stored.Sides.{Sides}
 use Rattle.pbf_frame.specs.FirstForm.{AreSides, signed_field, bytes_field, bbox, header_block}
 use Rattle.pbf_frame.proofs.Found.{kept}
+use Rattle.pbf_frame.proofs.Fronts.{apart4}
 
 -- ---- the HeaderBlock
 
@@ -61,13 +62,10 @@ behind_right s = signed_field 3 s.top ++ behind_top s
 abbrev pub behind_left : Sides → List ℕ
 behind_left s = signed_field 2 s.right ++ behind_right s
 
-four-parts : (a b c d : List ℕ) → a ++ b ++ c ++ d ≡ a ++ (b ++ (c ++ d))
-four-parts a b c d = append_assoc (a ++ b) c d ∙ append_assoc a b (c ++ d)
-
 -- A bbox is its left side, and the others in what follows.
 pub bbox-parts : (bytes : List ℕ) (s : Sides) → bytes ≡ bbox s → bytes ≡ signed_field 1 s.left ++ behind_left s
 unfolding bbox
-bbox-parts bytes s e = e ∙ four-parts (signed_field 1 s.left) (signed_field 2 s.right) (signed_field 3 s.top) (signed_field 4 s.bottom)
+bbox-parts bytes s e = e ∙ apart4 (signed_field 1 s.left) (signed_field 2 s.right) (signed_field 3 s.top) (signed_field 4 s.bottom)
 
 -- The sides that were read, as the code keeps them, are those that were spelled.
 pub sides-are : (s : Sides) (left right top bottom : ℤ) → SidesFit s → left ≡ s.left → right ≡ s.right → top ≡ s.top → bottom ≡ s.bottom

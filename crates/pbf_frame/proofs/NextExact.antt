@@ -1,7 +1,8 @@
 -- What is given of a source that tells its bytes is what comes next in them.
 use Rattle.std.proofs.Common.{◌≡◌, ◌≢◌, ◌∙◌, ℕ, ◌+◌, List, [], ◌∷◌, ◌++◌, length, refl, sym, ap, subst, inl, inr, true, cond, Option, Some, None, Result, Ok, Err, append_assoc, append-nil}
 use Rattle.std.proofs.lemmas.List.Elements.{filter-append}
-use Rattle.mf_base.proofs.StepLaws.{ok_is, no_some, err_is_no_ok}
+use Rattle.std.proofs.lemmas.Option.{none-some}
+use Rattle.mf_base.proofs.StepLaws.{ok_is, err_is_no_ok}
 use Rattle.mf_edge.specs.Device.{Takes, IsAtEnd}
 use Rattle.osm_model.specs.Reading.{Reading, stops_at, then_reads}
 use Rattle.osm_model.specs.Frames.{Frame, FrameFault, FrameFaultAt, AreFrames, is_known, known_frames, PassesOver, frames_at, next_known}
@@ -99,7 +100,7 @@ none_next : (at : ℕ) (all : List ℕ) → PassesOver at all → next_known (fr
 none_next at all h = ap (λ b. next_known (frames_at at b)) (sym (append-nil all)) ∙ passes at all [] h ∙ ap next_known (frames-nil (at + length all))
 
 pub passes-is_end : (block : List ℕ) (at : ℕ) (all : List ℕ) (r : Result (Option given.Frame) NextFault) → IsNext block r (next_known (frames_at at all)) → r ≢ Err next_fault.Read → PassesOver at all → r ≡ Ok None
-passes-is_end block at all (Ok (Some f)) next read h = absurd (no_some (frame_shown block f) (ok_is None (Some (frame_shown block f)) (sym (none_next at all h) ∙ next)))
+passes-is_end block at all (Ok (Some f)) next read h = absurd (none-some (frame_shown block f) (ok_is None (Some (frame_shown block f)) (sym (none_next at all h) ∙ next)))
 passes-is_end block at all (Ok None) next read h = refl
 passes-is_end block at all (Err (next_fault.Frame told f)) next read h = absurd (err_is_no_ok (record { at = told; fault = fault_shown f }) None (sym next ∙ none_next at all h))
 passes-is_end block at all (Err next_fault.Read) next read h = absurd (read refl)

@@ -1,40 +1,38 @@
 -- Columns spell the nodes that they tell, and begin with the first of them.
 use Rattle.std.proofs.Common.{◌≡◌, ℕ, ◌<◌, ◌≤◌, Bool, true, false, List, [], ◌∷◌, ◌++◌, length, map, refl, sym, ap, subst, ◌∙◌, arith, Option, Some, None}
-use Rattle.std.specs.Prelude.{flat_map, nat_lt, ℤ, pos, nat_abs, ◌+ℤ◌, ◌-ℤ◌, ◌*ℤ◌, FitsSigned}
+use Rattle.std.specs.Prelude.{nat_lt, ℤ, pos, nat_abs, ◌-ℤ◌, ◌*ℤ◌, FitsSigned}
 use Rattle.std.specs.Int.{w64}
 use Rattle.std.proofs.lemmas.Int.{ints, to_z-of_z, fits_signed_from_abs, unsigned_abs-mul}
+use Rattle.std.proofs.lemmas.Bool.{both_ways}
 use Rattle.std.proofs.lemmas.List.{length-append}
-use Rattle.std.proofs.lemmas.Option.{none-some}
+use Rattle.std.proofs.lemmas.Option.{none-some, same_Some}
 use Rattle.mf_base.specs.Spelling.{vbe_unsigned, zigzag_of, unzigzag_of, sevens}
 use Rattle.mf_base.proofs.NumberLemmas.{zigzag-there}
-use Rattle.mf_base.proofs.StepLaws.{some_is}
+use Rattle.mf_base.proofs.SignLaws.{plus_difference}
 use Rattle.mf_base.proofs.OneSpelling.{length-vbe-positive}
 use Rattle.osm_model.specs.Blocks.{is_coordinate}
 use Rattle.osm_model.specs.Wire.{packed_numbers}
-use Rattle.osm_model.specs.Objects.{column, column_from, TagRun, by_zero, tag_runs}
-use Rattle.osm_model.proofs.PackedLaws.{runs-nil, runs-append}
+use Rattle.osm_model.specs.Objects.{column, column_from, tag_runs}
+use Rattle.osm_model.proofs.PackedLaws.{runs-append}
 use Rattle.osm_model.proofs.ColumnLaws.{column_from-cons}
-use Rattle.osm_model.proofs.TableLaws.{true_no_false}
-use Rattle.osm_model.proofs.TagRunLaws.{run-closed}
+use Rattle.pbf_wire.proofs.PackedReads.{numbers-nil}
 use Rattle.pbf_frame.specs.declared.stored.StoredNode.{StoredNode}
 use Rattle.pbf_frame.specs.FirstForm.{plain_head, packed, differences, tag_part, dense_nodes, AreFirstNodes}
 use Rattle.pbf_frame.specs.Columns.{ColumnsLeft, whole_columns, column_fields, IsStoredPlace, SpellsNodes, BeginWith, numbers_left, side_by_side, nodes_left, AreNodes}
 use Rattle.pbf_frame.proofs.Shortest.{short-spelling}
 use Rattle.pbf_frame.proofs.Found.{kept, lat-near, lon-near}
+use Rattle.pbf_frame.proofs.FirstTags.{keys_vals, run_for, runs_for, tags-runs}
 
 -- ---- the columns of some nodes
 
-abbrev ids_of : List StoredNode → List ℤ
+abbrev pub ids_of : List StoredNode → List ℤ
 ids_of nodes = map (λ (n : StoredNode). pos n.id) nodes
 
-abbrev lats_of : List StoredNode → List ℤ
+abbrev pub lats_of : List StoredNode → List ℤ
 lats_of nodes = map (λ (n : StoredNode). n.lat) nodes
 
-abbrev lons_of : List StoredNode → List ℤ
+abbrev pub lons_of : List StoredNode → List ℤ
 lons_of nodes = map (λ (n : StoredNode). n.lon) nodes
-
-abbrev parts_of : List StoredNode → List ℕ
-parts_of nodes = flat_map (λ (n : StoredNode). tag_part n.tagged) nodes
 
 -- what is left behind a node, if these follow
 abbrev pub behind : StoredNode → List StoredNode → ColumnsLeft
@@ -42,16 +40,13 @@ behind n ns = record {
   ids = packed (differences (pos n.id) (ids_of ns));
   lats = packed (differences n.lat (lats_of ns));
   lons = packed (differences n.lon (lons_of ns));
-  parts = parts_of ns;
+  parts = keys_vals ns;
   id = n.id;
   lat = n.lat;
   lon = n.lon;
 }
 
 -- ---- numbers
-
-packed_numbers-nil : packed_numbers [] ≡ []
-packed_numbers-nil = ap (map sevens) runs-nil
 
 packed_numbers-cons : (n : ℕ) (rest : List ℕ) → packed_numbers (vbe_unsigned n ++ rest) ≡ n ∷ packed_numbers rest
 packed_numbers-cons n rest =
@@ -62,50 +57,29 @@ column_from-nil : (before : ℤ) → column_from before [] ≡ []
 unfolding column
 column_from-nil before = refl
 
-plus_difference : (z before : ℤ) → before +ℤ (z -ℤ before) ≡ z
-plus_difference z before = grind arith
-
 numbers-cons : (z before : ℤ) (rest : List ℕ) → numbers_left before (vbe_unsigned (zigzag_of (z -ℤ before)) ++ rest) ≡ z ∷ numbers_left z rest
 numbers-cons z before rest =
     let d : ℤ = z -ℤ before in
     ap (λ (ns : List ℕ). column_from before (map unzigzag_of ns)) (packed_numbers-cons (zigzag_of d) rest)
     ∙ ap (λ (x : ℤ). column_from before (x ∷ map unzigzag_of (packed_numbers rest))) (zigzag-there d)
     ∙ column_from-cons before d (map unzigzag_of (packed_numbers rest))
-    ∙ ap (λ (x : ℤ). x ∷ numbers_left x rest) (plus_difference z before)
+    ∙ ap (λ (x : ℤ). x ∷ numbers_left x rest) (plus_difference before z)
 
 -- a delta column tells its numbers
 numbers-is : (before : ℤ) (zs : List ℤ) → numbers_left before (packed (differences before zs)) ≡ zs
-numbers-is before [] = ap (λ (ns : List ℕ). column_from before (map unzigzag_of ns)) packed_numbers-nil ∙ column_from-nil before
+numbers-is before [] = ap (λ (ns : List ℕ). column_from before (map unzigzag_of ns)) numbers-nil ∙ column_from-nil before
 numbers-is before (z ∷ zs) = numbers-cons z before (packed (differences z zs)) ∙ ap (λ (ys : List ℤ). z ∷ ys) (numbers-is z zs)
-
--- ---- keys_vals
-
-abbrev run_of : Bool → TagRun
-run_of true = record { pairs = (1, 2) ∷ []; ends = by_zero }
-run_of false = record { pairs = []; ends = by_zero }
-
-run-first : (tagged : Bool) (rest : List ℕ) → tag_runs (tag_part tagged ++ rest) ≡ run_of tagged ∷ tag_runs rest
-run-first true rest = run-closed ((1, 2) ∷ []) rest (omega arith, tt)
-run-first false rest = run-closed [] rest tt
-
-runs-none : tag_runs [] ≡ []
-unfolding tag_runs
-runs-none = refl
-
-runs-is : (nodes : List StoredNode) → tag_runs (parts_of nodes) ≡ map (λ (n : StoredNode). run_of n.tagged) nodes
-runs-is [] = runs-none
-runs-is (n ∷ ns) = run-first n.tagged (parts_of ns) ∙ ap (λ (rs : List TagRun). run_of n.tagged ∷ rs) (runs-is ns)
 
 -- ---- nodes
 
-told_tag : (tagged : Bool) → nat_lt 0 (length (run_of tagged).pairs) ≡ tagged
+told_tag : (tagged : Bool) → nat_lt 0 (length (run_for tagged).pairs) ≡ tagged
 told_tag true = refl
 told_tag false = refl
 
-side_by_side-is : (nodes : List StoredNode) → side_by_side (ids_of nodes) (lats_of nodes) (lons_of nodes) (map (λ (n : StoredNode). run_of n.tagged) nodes) ≡ nodes
+side_by_side-is : (nodes : List StoredNode) → side_by_side (ids_of nodes) (lats_of nodes) (lons_of nodes) (runs_for nodes) ≡ nodes
 side_by_side-is [] = refl
 side_by_side-is (n ∷ ns) =
-    ap (λ (t : Bool). record n { tagged = t } ∷ side_by_side (ids_of ns) (lats_of ns) (lons_of ns) (map (λ (m : StoredNode). run_of m.tagged) ns)) (told_tag n.tagged)
+    ap (λ (t : Bool). record n { tagged = t } ∷ side_by_side (ids_of ns) (lats_of ns) (lons_of ns) (runs_for ns)) (told_tag n.tagged)
     ∙ ap (λ (ms : List StoredNode). n ∷ ms) (side_by_side-is ns)
 
 -- columns that spell nodes tell them
@@ -115,7 +89,7 @@ nodes-are c nodes s =
     ap (λ (ids : List ℤ). side_by_side ids (numbers_left c.lat c.lats) (numbers_left c.lon c.lons) (tag_runs c.parts)) (ap (numbers_left (pos c.id)) s.ids ∙ numbers-is (pos c.id) (ids_of nodes))
     ∙ ap (λ (lats : List ℤ). side_by_side (ids_of nodes) lats (numbers_left c.lon c.lons) (tag_runs c.parts)) (ap (numbers_left c.lat) s.lats ∙ numbers-is c.lat (lats_of nodes))
     ∙ ap (λ (lons : List ℤ). side_by_side (ids_of nodes) (lats_of nodes) lons (tag_runs c.parts)) (ap (numbers_left c.lon) s.lons ∙ numbers-is c.lon (lons_of nodes))
-    ∙ ap (side_by_side (ids_of nodes) (lats_of nodes) (lons_of nodes)) (ap tag_runs s.parts ∙ runs-is nodes)
+    ∙ ap (side_by_side (ids_of nodes) (lats_of nodes) (lons_of nodes)) (ap tag_runs s.parts ∙ tags-runs nodes)
     ∙ side_by_side-is nodes
 
 pub are-spelled : (c : ColumnsLeft) (nodes : List StoredNode) → SpellsNodes c nodes → AreNodes c
@@ -160,7 +134,7 @@ place-left c left n b = rw (b.lat, b.lon) b.place
 -- ---- the differences
 
 -- stored numbers of at most so many degrees
-near : (z : ℤ) → nat_abs (pos 100 *ℤ z) ≤ 180000000000 → nat_abs z ≤ 1800000000
+pub near : (z : ℤ) → nat_abs (pos 100 *ℤ z) ≤ 180000000000 → nat_abs z ≤ 1800000000
 near z le = omega (arith, le, unsigned_abs-mul (pos 100) z)
 
 difference-fits : (y z : ℤ) → nat_abs y ≤ 1800000000 → nat_abs z ≤ 1800000000 → FitsSigned w64 (z -ℤ y)
@@ -251,7 +225,7 @@ pub record FirstOf (c : ColumnsLeft) (n : StoredNode) (left : ColumnsLeft) : Typ
 first_of_them : (c left : ColumnsLeft) (n : StoredNode) (ns : List StoredNode) → BeginWith c n left → Answers c (Some (n, left)) → SpellsNodes c ns → FirstOf c n left
 first_of_them c left n [] b only s = absurd (none-first c left n s.ids b)
 first_of_them c left n (m ∷ ms) b only s =
-    let pair : (n, left) ≡ (m, behind m ms) = some_is (n, left) (m, behind m ms) (only m (behind m ms) (first-node c m ms s)) in
+    let pair : (n, left) ≡ (m, behind m ms) = same_Some (n, left) (m, behind m ms) (only m (behind m ms) (first-node c m ms s)) in
     subst (λ (p : StoredNode × ColumnsLeft). FirstOf c p.0 p.1) (sym pair) (record {
       nodes = nodes-are c (m ∷ ms) s ∙ ap (λ (ns : List StoredNode). m ∷ ns) (sym (nodes-are (behind m ms) ms (behind-spelled c m ms s)));
       others = are-spelled (behind m ms) ms (behind-spelled c m ms s);
@@ -264,7 +238,7 @@ first-of c left n b only s = first_of_them c left n (nodes_left c) b only s
 
 -- the columns of nodes
 abbrev pub columns_of : List StoredNode → ColumnsLeft
-columns_of nodes = whole_columns (packed (differences (pos 0) (ids_of nodes))) (packed (differences (pos 0) (lats_of nodes))) (packed (differences (pos 0) (lons_of nodes))) (parts_of nodes)
+columns_of nodes = whole_columns (packed (differences (pos 0) (ids_of nodes))) (packed (differences (pos 0) (lats_of nodes))) (packed (differences (pos 0) (lons_of nodes))) (keys_vals nodes)
 
 pub dense-columns : (nodes : List StoredNode) → dense_nodes nodes ≡ column_fields (columns_of nodes).ids (columns_of nodes).lats (columns_of nodes).lons (columns_of nodes).parts
 unfolding dense_nodes column_fields
@@ -278,7 +252,7 @@ whole-spelled nodes sound = record { ids = refl; lats = refl; lons = refl; parts
 pub off_earth : (answer : Bool) (lat lon : ℤ) (n : StoredNode) → answer ≡ is_coordinate plain_head (kept lat) (kept lon) → answer ≡ false → FitsSigned w64 n.lat → FitsSigned w64 n.lon → lat ≡ n.lat → lon ≡ n.lon → IsStoredPlace n.lat n.lon → ⊥
 off_earth answer lat lon n is none f g e h place =
     let near : answer ≡ true = is ∙ ap (λ (z : ℤ). is_coordinate plain_head (kept z) (kept lon)) e ∙ ap (λ (z : ℤ). is_coordinate plain_head (kept n.lat) (kept z)) h ∙ (rw (to_z-of_z w64 n.lat f, to_z-of_z w64 n.lon g) place) in
-    true_no_false answer near none
+    both_ways answer none near
 
 same_node : (n : StoredNode) (id : ℕ) (lat lon : ℤ) (tagged : Bool) → id ≡ n.id → lat ≡ n.lat → lon ≡ n.lon → tagged ≡ n.tagged → record n { id = id; lat = lat; lon = lon; tagged = tagged } ≡ n
 same_node n id lat lon tagged e f g h = rw (e, f, g, h) refl

@@ -1,10 +1,9 @@
 -- A number or a text that is spelled at the front is what the steps find there.
 use Rattle.std.proofs.Common.{◌≡◌, ℕ, ◌+◌, ◌-◌, ◌<◌, ◌≤◌, ◌^◌, List, [], ◌++◌, length, take, drop, get_or, sym, ap, ◌∙◌, arith, Result, Ok}
-use Rattle.std.proofs.lemmas.List.{append-nil, append_assoc, length-append, take_at, drop_at, get_or_append_left}
+use Rattle.std.proofs.lemmas.List.{append-nil, append_assoc, length-append, take_at, drop_at, take_rest, get_or_append_left}
 use Rattle.mf_base.specs.declared.number.VarintFault.{VarintFault}
 use Rattle.mf_base.specs.Spelling.{IsVarint, vbe_unsigned, string}
 use Rattle.mf_base.proofs.StepLaws.{ok_is}
-use Rattle.pbf_frame.proofs.Found.{whole_rest}
 use Rattle.pbf_frame.proofs.Shortest.{short-spelling, short-varint}
 
 -- ---- lists
@@ -12,7 +11,7 @@ use Rattle.pbf_frame.proofs.Shortest.{short-spelling, short-varint}
 -- Bytes of two parts are cut where the first one ends.
 pub cut-there : (a b bytes : List ℕ) (size : ℕ) → bytes ≡ a ++ b → size ≡ length a → (take size bytes ≡ a) × (take (length bytes - size) (drop size bytes) ≡ b)
 cut-there a b bytes size e same =
-    (ap (take size) e ∙ take_at a b size (sym same), whole_rest size bytes ∙ (ap (drop size) e ∙ drop_at a b size (sym same)))
+    (ap (take size) e ∙ take_at a b size (sym same), take_rest bytes size ∙ (ap (drop size) e ∙ drop_at a b size (sym same)))
 
 -- Bytes that begin with a part are not shorter than it.
 pub within-there : (a b bytes : List ℕ) (size : ℕ) → bytes ≡ a ++ b → size ≡ length a → size ≤ length bytes

@@ -1,7 +1,7 @@
 use Rattle.std.proofs.Common.{[], ◌∷◌, ap}
 use Rattle.std.specs.Prelude.{Some}
+use Rattle.std.proofs.lemmas.Bool.{both_ways}
 use Rattle.mf_base.specs.Spelling.{vbe_unsigned}
-use Rattle.osm_model.proofs.TableLaws.{true_no_false}
 use Rattle.pbf_frame.proofs.Found.{header-found}
 use Rattle.pbf_frame.proofs.PartsOnly.{before-nothing}
 use Rattle.pbf_frame.proofs.BlobsOnly.{header-parts}
@@ -30,6 +30,6 @@ returns-else-is_same-clause-only c = λ n fits e.
     let found = c.in_ok-found.ensures.only c.args.kind.now (24 ∷ vbe_unsigned n) (header-parts _ _ n e) in
     let size = c.in_ok-size.ensures.only n [] fits (before-nothing (24 ∷ vbe_unsigned n) _ found.1) in
     elim c.else-is_same.branch [
-      | else-is_same-via-then-is_same+else-is_end w ↦ absurd (true_no_false _ (w.is_end.ensures.only size.1) w.if-is_end.false)
-      | else-is_same-via-else-is_same w ↦ absurd (true_no_false _ (c.is_same.ensures.only found.0) w.if-is_same.false)
+      | else-is_same-via-then-is_same+else-is_end w ↦ absurd (both_ways _ w.if-is_end.false (w.is_end.ensures.only size.1))
+      | else-is_same-via-else-is_same w ↦ absurd (both_ways _ w.if-is_same.false (c.is_same.ensures.only found.0))
     ]

@@ -2,31 +2,32 @@ use Rattle.std.proofs.Common.{◌∷◌, sym, ap, ◌∙◌, Some}
 use Rattle.mf_base.specs.Spelling.{string}
 use Rattle.pbf_frame.specs.FirstForm.{FirstData, string_table, dense_nodes}
 use Rattle.pbf_frame.proofs.OneValue.{one_data}
-use Rattle.pbf_frame.proofs.DataLaws.{group_of, block-apart, data-found}
+use Rattle.pbf_frame.proofs.FirstBlock.{group_for}
+use Rattle.pbf_frame.proofs.DataLaws.{block-apart, data-found}
 use Rattle.pbf_frame.proofs.dense.data_in.Goals as goal
 
 pub returns-in_err-table-clause-only : goal.returns-in_err-table-clause-only
-returns-in_err-table-clause-only c d sound e = absurd (c.in_err-table.ensures.only (string_table d.key d.value) (18 ∷ string (group_of d.nodes)) (e ∙ block-apart d))
+returns-in_err-table-clause-only c d sound e = absurd (c.in_err-table.ensures.only (string_table d.key d.value) (18 ∷ string (group_for d.nodes)) (e ∙ block-apart d))
 
 pub returns-in_err-key-clause-only : goal.returns-in_err-key-clause-only
 returns-in_err-key-clause-only c d sound e =
-    let table = c.in_ok-table.ensures.only (string_table d.key d.value) (18 ∷ string (group_of d.nodes)) (e ∙ block-apart d) in
+    let table = c.in_ok-table.ensures.only (string_table d.key d.value) (18 ∷ string (group_for d.nodes)) (e ∙ block-apart d) in
     absurd (c.in_err-key.ensures.only d.key d.value sound.key_text sound.value_text sound.free_key table.0)
 
 pub returns-in_err-group-clause-only : goal.returns-in_err-group-clause-only
 returns-in_err-group-clause-only c d sound e =
-    let table = c.in_ok-table.ensures.only (string_table d.key d.value) (18 ∷ string (group_of d.nodes)) (e ∙ block-apart d) in
-    absurd (c.in_err-group.ensures.only (group_of d.nodes) table.1)
+    let table = c.in_ok-table.ensures.only (string_table d.key d.value) (18 ∷ string (group_for d.nodes)) (e ∙ block-apart d) in
+    absurd (c.in_err-group.ensures.only (group_for d.nodes) table.1)
 
 pub returns-in_err-dense-clause-only : goal.returns-in_err-dense-clause-only
 returns-in_err-dense-clause-only c d sound e =
-    let table = c.in_ok-table.ensures.only (string_table d.key d.value) (18 ∷ string (group_of d.nodes)) (e ∙ block-apart d) in
-    absurd (c.in_err-dense.ensures.only (dense_nodes d.nodes) (c.in_ok-group.ensures.only (group_of d.nodes) table.1))
+    let table = c.in_ok-table.ensures.only (string_table d.key d.value) (18 ∷ string (group_for d.nodes)) (e ∙ block-apart d) in
+    absurd (c.in_err-dense.ensures.only (dense_nodes d.nodes) (c.in_ok-group.ensures.only (group_for d.nodes) table.1))
 
 pub returns-in_err-columns-clause-only : goal.returns-in_err-columns-clause-only
 returns-in_err-columns-clause-only c d sound e =
-    let table = c.in_ok-table.ensures.only (string_table d.key d.value) (18 ∷ string (group_of d.nodes)) (e ∙ block-apart d) in
-    let dense = c.in_ok-dense.ensures.only (dense_nodes d.nodes) (c.in_ok-group.ensures.only (group_of d.nodes) table.1) in
+    let table = c.in_ok-table.ensures.only (string_table d.key d.value) (18 ∷ string (group_for d.nodes)) (e ∙ block-apart d) in
+    let dense = c.in_ok-dense.ensures.only (dense_nodes d.nodes) (c.in_ok-group.ensures.only (group_for d.nodes) table.1) in
     absurd (c.in_err-columns.ensures.only d.nodes sound.some_nodes sound.sound dense)
 
 pub returns-clause-found : goal.returns-clause-found

@@ -1,7 +1,7 @@
 use Rattle.std.proofs.Common.{◌≡◌, ℕ, List, [], ◌∷◌, ◌++◌, sym, ap, ◌∙◌, rules}
+use Rattle.std.proofs.lemmas.Bool.{both_ways}
 use Rattle.mf_base.specs.Spelling.{string}
 use Rattle.mf_base.specs.Texts.{is_among}
-use Rattle.osm_model.proofs.TableLaws.{true_no_false}
 use Rattle.pbf_frame.specs.FirstForm.{kept_keys}
 use Rattle.pbf_frame.proofs.Found.{table-found, text-moved}
 use Rattle.pbf_frame.proofs.OneValue.{one_table}
@@ -61,6 +61,6 @@ returns-else-is_end-clause-only c key value key_text value_text free e =
     let first = c.in_ok-first.ensures.only key (10 ∷ string value) empty.1 in
     let key_is : c.in_ok-key.key.now ≡ key = c.in_ok-key.ensures.found.0 ∙ first.0 in
     elim c.else-is_end.branch [
-      | else-is_end-via-then-is_end+else-not-is_kept w ↦ true_no_false _ (ap (is_among kept_keys) (sym key_is) ∙ sym w.is_kept.ensures ∙ w.if-not-is_kept.false) free
-      | else-is_end-via-else-is_end w ↦ true_no_false _ (c.is_end.ensures.only empty.0) w.if-is_end.false
+      | else-is_end-via-then-is_end+else-not-is_kept w ↦ both_ways _ free (ap (is_among kept_keys) (sym key_is) ∙ sym w.is_kept.ensures ∙ w.if-not-is_kept.false)
+      | else-is_end-via-else-is_end w ↦ both_ways _ w.if-is_end.false (c.is_end.ensures.only empty.0)
     ]

@@ -1,5 +1,5 @@
 use Rattle.std.specs.Prelude.{codes}
-use Rattle.osm_model.proofs.TableLaws.{true_no_false}
+use Rattle.std.proofs.lemmas.Bool.{both_ways}
 use Rattle.pbf_frame.specs.FirstForm.{bbox}
 use Rattle.pbf_frame.proofs.Found.{block-found}
 use Rattle.pbf_frame.proofs.HeaderOnly.{block-parts, features, dense_feature}
@@ -40,6 +40,6 @@ returns-else-is_same-clause-only c = λ s are e.
     let schema = c.in_ok-schema.ensures.only (codes "OsmSchema-V0.6") dense_feature box.1 in
     let dense = c.in_ok-dense.ensures.only (codes "DenseNodes") schema.1 in
     elim c.else-is_same.branch [
-      | else-is_same-via-then-is_same+else-is_same-2 w ↦ absurd (true_no_false _ (w.is_same-then-is_same.ensures.only dense) w.if-is_same-2.false)
-      | else-is_same-via-else-is_same w ↦ absurd (true_no_false _ (c.is_same.ensures.only schema.0) w.if-is_same.false)
+      | else-is_same-via-then-is_same+else-is_same-2 w ↦ absurd (both_ways _ w.if-is_same-2.false (w.is_same-then-is_same.ensures.only dense))
+      | else-is_same-via-else-is_same w ↦ absurd (both_ways _ w.if-is_same.false (c.is_same.ensures.only schema.0))
     ]

@@ -1,7 +1,7 @@
 use Rattle.std.proofs.Common.{[], ap, ◌∙◌, rules}
 use Rattle.std.specs.Prelude.{Some}
+use Rattle.std.proofs.lemmas.Bool.{both_ways}
 use Rattle.osm_model.specs.Blocks.{are_sides}
-use Rattle.osm_model.proofs.TableLaws.{true_no_false}
 use Rattle.pbf_frame.specs.declared.stored.Sides.{Sides}
 use Rattle.pbf_frame.proofs.Found.{sides-found}
 use Rattle.pbf_frame.proofs.PartsOnly.{before-nothing}
@@ -56,6 +56,6 @@ returns-else-is_end-clause-only c = λ s are e.
     let bottom = c.in_ok-bottom.ensures.only s.bottom [] fit.bottom (before-nothing (behind_top s) _ top.1) in
     let same = sides-are s _ _ _ _ fit left.0 right.0 top.0 bottom.0 in
     elim c.else-is_end.branch [
-      | else-is_end-via-then-is_end+else-are_in_order w ↦ absurd (true_no_false _ (w.are_in_order.ensures ∙ (ap (λ (x : Sides). are_sides x.left x.right x.top x.bottom) same ∙ are)) w.if-are_in_order.false)
-      | else-is_end-via-else-is_end w ↦ absurd (true_no_false _ (c.is_end.ensures.only bottom.1) w.if-is_end.false)
+      | else-is_end-via-then-is_end+else-are_in_order w ↦ absurd (both_ways _ w.if-are_in_order.false (w.are_in_order.ensures ∙ (ap (λ (x : Sides). are_sides x.left x.right x.top x.bottom) same ∙ are)))
+      | else-is_end-via-else-is_end w ↦ absurd (both_ways _ w.if-is_end.false (c.is_end.ensures.only bottom.1))
     ]
