@@ -9,6 +9,7 @@ use Rattle.std.proofs.lemmas.Slice.Eq.{starts_is}
 use Rattle.std.proofs.lemmas.Str.Pattern.{NoCharPasses-char, drop_at_char}
 use Rattle.std.proofs.lemmas.List.{reverse-append, reverse-reverse, length-reverse, get_or-reverse, append_assoc}
 use Rattle.mf_base.specs.Texts.{Text, begins, has_byte, cut, cut_last}
+use Rattle.mf_base.proofs.WordLaws.{cut-at, cut-absent}
 use Rattle.mfwrite.specs.FirstWords.{behind}
 
 -- ---- a front
@@ -34,14 +35,6 @@ lacks-rest c b text h i l = h (suc i) (omega (arith, l))
 pub lacks-first : (c b : ℕ) (text : Text) → Lacks c (b ∷ text) → b ≢ c
 lacks-first c b text h = h 0 (omega arith)
 
-pub cut-none : (c : ℕ) (text : Text) → Lacks c text → cut c text ≡ None
-cut-none c [] h = refl
-cut-none c (b ∷ text) h = rw (ne_eqb b c (lacks-first c b text h), cut-none c text (lacks-rest c b text h)) refl
-
-pub cut-some : (c : ℕ) (front rest : Text) → Lacks c front → cut c (front ++ c ∷ rest) ≡ Some (front, rest)
-cut-some c [] rest h = rw (eq-eqb c c refl) refl
-cut-some c (b ∷ front) rest h = rw (ne_eqb b c (lacks-first c b front h), cut-some c front rest (lacks-rest c b front h)) refl
-
 pub has_byte-lacks : (c : ℕ) (text : Text) → Lacks c text → has_byte c text ≡ false
 has_byte-lacks c [] h = refl
 has_byte-lacks c (b ∷ text) h = rw (ne_eqb c b (λ e. lacks-first c b text h (sym e)), has_byte-lacks c text (lacks-rest c b text h)) refl
@@ -52,13 +45,13 @@ lacks-reverse c text h i l =
     λ e. h (length text - 1 - i) (omega (arith, within)) (sym (get_or-reverse text i 0 within) ∙ e)
 
 pub cut_last-none : (c : ℕ) (text : Text) → Lacks c text → cut_last c text ≡ None
-cut_last-none c text h = rw (cut-none c (reverse text) (lacks-reverse c text h)) refl
+cut_last-none c text h = rw (cut-absent c (reverse text) (has_byte-lacks c (reverse text) (lacks-reverse c text h))) refl
 
 reversed : (c : ℕ) (front rest : Text) → reverse (front ++ c ∷ rest) ≡ reverse rest ++ c ∷ reverse front
 reversed c front rest = reverse-append front (c ∷ rest) ∙ ap (λ (l : Text). l ++ reverse front) (reverse-append (c ∷ []) rest) ∙ append_assoc (reverse rest) (c ∷ []) (reverse front)
 
 pub cut_last-some : (c : ℕ) (front rest : Text) → Lacks c rest → cut_last c (front ++ c ∷ rest) ≡ Some (front, rest)
-cut_last-some c front rest h = rw (reversed c front rest, cut-some c (reverse rest) (reverse front) (lacks-reverse c rest h), reverse-reverse front, reverse-reverse rest) refl
+cut_last-some c front rest h = rw (reversed c front rest, cut-at c (reverse rest) (reverse front) (has_byte-lacks c (reverse rest) (lacks-reverse c rest h)), reverse-reverse front, reverse-reverse rest) refl
 
 -- ---- what `rsplit_once` says at an ASCII character
 

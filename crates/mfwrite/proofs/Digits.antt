@@ -5,7 +5,7 @@ use Rattle.std.specs.List.{list_all}
 use Rattle.std.specs.Char.{is_ascii_digit}
 use Rattle.std.specs.Result.{result_ok}
 use Rattle.std.specs.Str.Parse.{ParsesUnsigned}
-use Rattle.std.proofs.lemmas.Bool.{cases_Bool, cases_lt, le-leb, lt-leb}
+use Rattle.std.proofs.lemmas.Bool.{and_right, cases_Bool, cases_lt, le-leb, lt-leb}
 use Rattle.std.proofs.lemmas.Str.Parse.{IsNumeralModel, numerals_by_weight, parse_plain}
 use Rattle.mf_base.specs.Ranges.{within_numbers}
 use Rattle.mf_base.specs.Numbers.{decimal_value, digits_up_to, number_in}
@@ -13,14 +13,10 @@ use Rattle.mf_base.specs.Numbers.{decimal_value, digits_up_to, number_in}
 own : IsNumeralModel (λ ds. list_all is_ascii_digit ds ≡ true) decimal_value
 own = numerals_by_weight _ (search rules) decimal_value (search rules)
 
-and_false : (b : Bool) → (b && false) ≡ false
-and_false true = refl
-and_false false = refl
-
 -- more digits than twenty
 pub too_long : (greatest : ℕ) (text : List ℕ) → 20 < length text → None ≡ number_in 0 greatest text
 unfolding number_in digits_up_to
-too_long greatest text long = rw (lt-leb (length text) 20 long, and_false (nat_le 1 (length text))) refl
+too_long greatest text long = rw (lt-leb (length text) 20 long, and_right (nat_le 1 (length text)) false refl) refl
 
 -- a sign in front
 signed : (text : List ℕ) → get_or text 0 0 ≡ 43 → list_all is_ascii_digit text ≡ false
@@ -29,11 +25,11 @@ signed (b ∷ text) h = rw h refl
 
 pub with_plus : (greatest : ℕ) (text : List ℕ) → get_or text 0 0 ≡ 43 → None ≡ number_in 0 greatest text
 unfolding number_in digits_up_to
-with_plus greatest text h = rw (signed text h, and_false (nat_le 1 (length text) && nat_le (length text) 20)) refl
+with_plus greatest text h = rw (signed text h, and_right (nat_le 1 (length text) && nat_le (length text) 20) false refl) refl
 
 -- a number above the greatest, and one that is not
 over : (greatest n : ℕ) → greatest < n → within_numbers 0 greatest n ≡ None
-over greatest n h = rw (lt-leb n greatest h, and_false (nat_le 0 n)) refl
+over greatest n h = rw (lt-leb n greatest h, and_right (nat_le 0 n) false refl) refl
 
 at_most : (greatest n : ℕ) → n ≤ greatest → within_numbers 0 greatest n ≡ Some n
 at_most greatest n h = rw (le-leb 0 n (omega arith), le-leb n greatest h) refl
@@ -49,7 +45,7 @@ parsed {E} greatest text (Err e) h plain few small =
     elim (cases_lt 0 (length text)) [
       | inr none ↦ rw (lt-leb 1 (length text) (omega (arith, none))) refl
       | inl some ↦ (elim (cases_Bool (list_all is_ascii_digit text)) [
-        | inr other ↦ rw (other, and_false (nat_le 1 (length text) && nat_le (length text) 20)) refl
+        | inr other ↦ rw (other, and_right (nat_le 1 (length text) && nat_le (length text) 20) false refl) refl
         | inl digits ↦ (elim (cases_lt (decimal_value text) (2 ^ 64)) [
           | inl narrow ↦ absurd (is_not (digits, some, narrow))
           | inr wide ↦ rw (le-leb 1 (length text) some, le-leb (length text) 20 few, digits, over greatest (decimal_value text) (omega (arith, wide, small))) refl

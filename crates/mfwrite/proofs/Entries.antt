@@ -3,12 +3,12 @@ use Rattle.std.proofs.Common.{◌≡◌, ℕ, [], ◌∷◌, refl, sym, ap, ◌�
 use Rattle.std.specs.Prelude.{nat_le}
 use Rattle.std.specs.Result.{result_ok}
 use Rattle.std.proofs.lemmas.Bool.{cases_Bool}
+use Rattle.std.proofs.lemmas.Option.{none-some, same_Some}
 use Rattle.mf_base.specs.declared.kind.List as which
 use Rattle.mf_base.specs.Steps.{◌>>=◌}
 use Rattle.mf_base.specs.Texts.{Text, begins, has_byte, is_among}
 use Rattle.mf_base.specs.Numbers.{number_in}
 use Rattle.mf_base.specs.Words.{equals}
-use Rattle.mf_base.proofs.StepLaws.{some_is, no_some}
 use Rattle.feature_model.specs.Mapping.{Entry}
 use Rattle.feature_model.specs.Entries.{MappingFault, keeps_entry_rule, keeps_kind_rule, is_short, entry_behind, entries_behind, mapping_told, told_poi}
 use Rattle.pbf_frame.specs.FirstForm.{kept_keys}
@@ -79,17 +79,17 @@ no_level e h = rw h (one_false (is_short e.key) (not (has_byte equals e.key)) (i
 -- ---- what was told
 
 zoomed_is : (told : Option Entry) (e : Entry) → Some e ≡ option_and_then of_a_zoom told → (told ≡ Some e) × (nat_le e.zoom 21 ≡ true)
-zoomed_is None e h = absurd (no_some e (sym h))
+zoomed_is None e h = absurd (none-some e (sym h))
 zoomed_is (Some f) e h = elim (cases_Bool (nat_le f.zoom 21)) [
-  | inl fits ↦ (let same : e ≡ f = some_is e f (h ∙ ap (λ (b : Bool). if b then Some f else None) fits) in (ap Some (sym same), ap (λ (x : Entry). nat_le x.zoom 21) same ∙ fits))
-  | inr above ↦ absurd (no_some e (sym (h ∙ ap (λ (b : Bool). if b then Some f else None) above)))
+  | inl fits ↦ (let same : e ≡ f = same_Some e f (h ∙ ap (λ (b : Bool). if b then Some f else None) fits) in (ap Some (sym same), ap (λ (x : Entry). nat_le x.zoom 21) same ∙ fits))
+  | inr above ↦ absurd (none-some e (sym (h ∙ ap (λ (b : Bool). if b then Some f else None) above)))
 ]
 
 none_kept : (told : Option Entry) → None ≡ option_and_then of_a_zoom told → None ≡ option_and_then plain_only (result_ok (entry_behind which.List.Poi [] told))
 unfolding entry_behind
 none_kept None h = refl
 none_kept (Some e) h = elim (cases_Bool (nat_le e.zoom 21)) [
-  | inl fits ↦ absurd (no_some e (h ∙ ap (λ (b : Bool). if b then Some e else None) fits))
+  | inl fits ↦ absurd (none-some e (h ∙ ap (λ (b : Bool). if b then Some e else None) fits))
   | inr above ↦ rw (no_level e above) refl
 ]
 

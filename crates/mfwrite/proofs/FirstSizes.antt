@@ -1,19 +1,16 @@
 -- How many nodes an input of the first form can have.
 use Rattle.std.proofs.Common.{◌≡◌, ℕ, ◌+◌, ◌*◌, ◌≤◌, Bool, true, false, ◌&&◌, if◌then◌else◌, List, [], ◌∷◌, ◌++◌, length, map, filter, Option, Some, None, refl, arith, length-append}
 use Rattle.std.specs.Prelude.{ℤ, pos, flat_map, codes, ◌-ℤ◌}
+use Rattle.std.proofs.lemmas.List.{length-map}
 use Rattle.mf_base.specs.Spelling.{string, vbe_unsigned, zigzag_of, big_endian}
 use Rattle.mf_base.specs.Texts.{Text}
 use Rattle.mf_base.proofs.OneSpelling.{length-vbe-positive}
-use Rattle.feature_model.proofs.ListLemmas.{length-map_of}
+use Rattle.pbf_frame.proofs.FirstFields.{field-longer}
 use Rattle.pbf_frame.specs.declared.stored.StoredNode.{StoredNode}
 use Rattle.pbf_frame.specs.declared.first_node.FirstNode.{FirstNode}
 use Rattle.pbf_frame.specs.FirstForm.{FirstValue, FirstData, IsFirstForm, bytes_field, blob, blob_header, first_bytes, primitive_block, dense_nodes, data_blob, delta_column, packed, differences, tag_part, header_block, string_table, node_told, nodes_told, tag_told}
 use Rattle.mfwrite.specs.FirstWords.{FirstWords}
 use Rattle.mfwrite.specs.FirstMap.{matching, is_tag_of}
-
-field-long : (k : ℕ) (bytes : List ℕ) → length bytes ≤ length (bytes_field k bytes)
-unfolding string
-field-long k bytes = omega (arith, length-append (vbe_unsigned (length bytes)) bytes)
 
 column-long : (before : ℤ) (zs : List ℤ) → length zs ≤ length (packed (differences before zs))
 column-long before [] = omega arith
@@ -44,37 +41,25 @@ nodes-long nodes =
     let first = bytes_field 1 (delta_column ids) in
     let second = bytes_field 8 (delta_column lats) in
     let third = bytes_field 9 (delta_column lons) in
-    omega (
-      arith,
-      parts-long nodes,
-      field-long 10 parts,
-      column-long (pos 0) ids,
-      field-long 1 (delta_column ids),
-      length-map_of (λ (n : StoredNode). pos n.id) nodes,
-      column-long (pos 0) lats,
-      field-long 8 (delta_column lats),
-      length-map_of (λ (n : StoredNode). n.lat) nodes,
-      column-long (pos 0) lons,
-      field-long 9 (delta_column lons),
-      length-map_of (λ (n : StoredNode). n.lon) nodes,
-      length-append first second,
-      length-append (first ++ second) third,
-      length-append ((first ++ second) ++ third) (bytes_field 10 parts),
-    )
+    omega (arith, parts-long nodes, field-longer 10 parts,
+      column-long (pos 0) ids, field-longer 1 (delta_column ids), length-map nodes (λ (n : StoredNode). pos n.id),
+      column-long (pos 0) lats, field-longer 8 (delta_column lats), length-map nodes (λ (n : StoredNode). n.lat),
+      column-long (pos 0) lons, field-longer 9 (delta_column lons), length-map nodes (λ (n : StoredNode). n.lon),
+      length-append first second, length-append (first ++ second) third, length-append ((first ++ second) ++ third) (bytes_field 10 parts))
 
 blob-long : (kind : Text) (raw : List ℕ) → length raw ≤ length (blob kind raw)
 unfolding blob
 blob-long kind raw =
     let body = bytes_field 1 raw in
     let header = blob_header kind (length body) in
-    omega (arith, field-long 1 raw, length-append (big_endian 4 (length header)) header, length-append (big_endian 4 (length header) ++ header) body)
+    omega (arith, field-longer 1 raw, length-append (big_endian 4 (length header)) header, length-append (big_endian 4 (length header) ++ header) body)
 
 data-long : (d : FirstData) → 4 * length d.nodes + 2 * tagged d.nodes ≤ length (data_blob (Some d))
 unfolding primitive_block
 data-long d =
     let dense = dense_nodes d.nodes in
     let group = bytes_field 2 dense in
-    omega (arith, nodes-long d.nodes, field-long 2 dense, field-long 2 group, blob-long (codes "OSMData") (primitive_block d), behind (bytes_field 2 group))
+    omega (arith, nodes-long d.nodes, field-longer 2 dense, field-longer 2 group, blob-long (codes "OSMData") (primitive_block d), behind (bytes_field 2 group))
   where
     behind : (last : List ℕ) → length last ≤ length (bytes_field 1 (string_table d.key d.value) ++ last)
     behind last = omega (arith, length-append (bytes_field 1 (string_table d.key d.value)) last)
@@ -109,7 +94,7 @@ held-few None wanted size short = (omega arith, omega arith)
 held-few (Some d) wanted size short =
     let long = data-long d in
     let some = tagged-some d.nodes in
-    (omega (arith, short, long, length-map_of node_told d.nodes), omega (arith, short, long, some, wanted-tagged wanted d.nodes))
+    (omega (arith, short, long, length-map d.nodes node_told), omega (arith, short, long, some, wanted-tagged wanted d.nodes))
 
 held-short : (v : FirstValue) → length (data_blob v.held) ≤ length (first_bytes v)
 unfolding first_bytes

@@ -1,13 +1,14 @@
 -- The map that is made.
 use Rattle.std.proofs.Common.{◌≡◌, ℕ, ◌+◌, ◌*◌, ◌≤◌, ◌<◌, ◌^◌, Bool, true, false, if◌then◌else◌, List, [], ◌∷◌, ◌++◌, length, map, refl, sym, ap, ◌∙◌, arith, append_assoc, length-append}
 use Rattle.std.specs.Prelude.{nat_le, min, max}
+use Rattle.std.proofs.lemmas.List.{length-map}
 use Rattle.mf_base.specs.Buffer.{Buffer, AppendsTo}
 use Rattle.mf_base.specs.declared.place.Rect.{Rect}
-use Rattle.feature_model.proofs.ListLemmas.{length-map_of}
+use Rattle.mf_base.proofs.ByteLaws.{length-big_endian}
 use Rattle.map_model.specs.Header.{header_size, header_bytes, sub_files}
 use Rattle.map_model.specs.SubFile.{entry_bytes}
 use Rattle.map_model.specs.MapFile.{Report, report}
-use Rattle.map_model.proofs.SizeLemmas.{length-header_bytes, length-big_endian}
+use Rattle.map_model.proofs.SizeLemmas.{length-header_bytes}
 use Rattle.pbf_frame.specs.FirstForm.{FirstValue, IsFirstForm, bounds_told, nodes_told}
 use Rattle.tile_body.specs.declared.first_tile.FirstPoi.{FirstPoi}
 use Rattle.tile_body.specs.FirstTile.{AreMembers, first_tile_bytes}
@@ -31,7 +32,7 @@ shown-some false all = omega arith
 pub shown-few : (w : FirstWords) (v : FirstValue) → IsFirstForm v → length (pois w v) ≤ 87381
 unfolding pois
 shown-few w v form =
-    omega (arith, few-matching w v form, length-map_of (poi_of w) (matching w v), shown-some (nat_le w.entry.zoom w.interval.max) (map (poi_of w) (matching w v)))
+    omega (arith, few-matching w v form, length-map (matching w v) (poi_of w), shown-some (nat_le w.entry.zoom w.interval.max) (map (poi_of w) (matching w v)))
 
 pub shown-members : (w : FirstWords) (v : FirstValue) (shown : List FirstPoi) → shown ≡ pois w v → AreMembers w.interval shown
 shown-members w v shown is = rw is (are-members w v)

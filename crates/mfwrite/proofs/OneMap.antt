@@ -13,7 +13,8 @@ use Rattle.map_model.specs.Listed.{TagLists}
 use Rattle.map_model.specs.MapFile.{all_contents, all_tiles, map_of_contents, map_of, map_file, report, shown_tiles, water_tiles, largest, largest_tile}
 use Rattle.map_model.specs.Samples.{world_tile, settings_to}
 use Rattle.map_model.proofs.World.{world_contents, world_members, world_tiles}
-use Rattle.map_model.proofs.SizeLemmas.{length-header_bytes, length-big_endian}
+use Rattle.mf_base.proofs.ByteLaws.{length-big_endian}
+use Rattle.map_model.proofs.SizeLemmas.{length-header_bytes}
 use Rattle.pbf_frame.specs.FirstForm.{FirstValue, bounds_told, nodes_told}
 use Rattle.mfwrite.specs.FirstWords.{FirstWords}
 use Rattle.mfwrite.specs.FirstJob.{AreFirstWords, settings, mapping, tags_listed}

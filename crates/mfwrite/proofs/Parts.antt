@@ -7,17 +7,18 @@ use Rattle.mf_base.specs.Ranges.{within_numbers}
 use Rattle.mf_base.specs.Numbers.{digits_up_to, number_in}
 use Rattle.feature_model.specs.Entries.{told_poi, spelled_entry}
 use Rattle.mfwrite.specs.Shown.{plain_entry, of_a_zoom}
-use Rattle.mfwrite.proofs.Cutting.{Lacks, cut-none, cut-some, cut_last-none, cut_last-some}
+use Rattle.mf_base.proofs.WordLaws.{cut-at, cut-absent}
+use Rattle.mfwrite.proofs.Cutting.{Lacks, has_byte-lacks, cut_last-none, cut_last-some}
 
 -- no `=`
 pub no_key : (text : Text) → Lacks 61 text → None ≡ option_and_then of_a_zoom (told_poi text)
 unfolding told_poi
-no_key text lacks = rw (cut-none 61 text lacks) refl
+no_key text lacks = rw (cut-absent 61 text (has_byte-lacks 61 text lacks)) refl
 
 -- no `@` behind the key
 pub no_zoom : (text key told : Text) → text ≡ key ++ 61 ∷ told → Lacks 61 key → Lacks 64 told → None ≡ option_and_then of_a_zoom (told_poi text)
 unfolding told_poi
-no_zoom text key told e lacks none = rw (e, cut-some 61 key told lacks, cut_last-none 64 told none) refl
+no_zoom text key told e lacks none = rw (e, cut-at 61 key told (has_byte-lacks 61 key lacks), cut_last-none 64 told none) refl
 
 zoomed : (key value : Text) (level : Option ℕ) → option_and_then of_a_zoom (option_map (plain_entry key value) level) ≡ option_map (plain_entry key value) (option_and_then (within_numbers 0 21) level)
 zoomed key value None = refl
@@ -28,7 +29,7 @@ zoomed key value (Some n) = elim (cases_Bool (nat_le n 21)) [
 
 all_parts : (text key told value digits : Text) → text ≡ key ++ 61 ∷ told → Lacks 61 key → told ≡ value ++ 64 ∷ digits → Lacks 64 digits → told_poi text ≡ spelled_entry key value digits
 unfolding told_poi
-all_parts text key told value digits e lacks behind last = rw (e, cut-some 61 key told lacks, behind, cut_last-some 64 value digits last) refl
+all_parts text key told value digits e lacks behind last = rw (e, cut-at 61 key told (has_byte-lacks 61 key lacks), behind, cut_last-some 64 value digits last) refl
 
 pub parts_told : (text key told value digits : Text) → text ≡ key ++ 61 ∷ told → Lacks 61 key → told ≡ value ++ 64 ∷ digits → Lacks 64 digits → option_map (plain_entry key value) (number_in 0 21 digits) ≡ option_and_then of_a_zoom (told_poi text)
 unfolding number_in

@@ -1,6 +1,6 @@
 -- What a program does, by what was prepared for it.
 use Rattle.std.proofs.Common.{◌≡◌, ◌≢◌, ◌⊎◌, inl, inr, ℕ, ◌<◌, Option, Some, None, arith, refl, sym, ◌∙◌}
-use Rattle.mf_base.proofs.StepLaws.{no_some}
+use Rattle.std.proofs.lemmas.Option.{none-some}
 use Rattle.mfwrite.specs.FirstWords.{FirstWords}
 use Rattle.mfwrite.specs.FirstRun.{refusal_status}
 use Rattle.mfwrite.specs.declared.prepare.Prepared.{Prepared}
@@ -42,5 +42,5 @@ of-not_built (Refused Memory) told Other status none other refused is = absurd (
 pub of-accepted : (p : Prepared) (told : Option FirstWords) (job : FirstWords) (status : ℕ) → told ≡ Some job → (p ≡ Refused NotBuilt → told ≡ None) → ((j : FirstWords) → p ≡ Ready j → status ≡ 0) → UnderRefusal p status
     → (status ≡ 0) ⊎ (status ≡ 9)
 of-accepted (Ready j) told job status some none success refused = inl (success j refl)
-of-accepted (Refused NotBuilt) told job status some none success refused = absurd (no_some job (sym (none refl) ∙ some))
+of-accepted (Refused NotBuilt) told job status some none success refused = absurd (none-some job (sym (none refl) ∙ some))
 of-accepted (Refused Memory) told job status some none success refused = inr (refused Memory refl)

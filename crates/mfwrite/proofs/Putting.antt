@@ -2,9 +2,7 @@
 use Rattle.std.proofs.Common.{◌≡◌, ℕ, ◌+◌, ◌≤◌, List, [], ◌∷◌, ◌++◌, length, arith, append_assoc, append-nil, length-append, sym}
 use Rattle.std.specs.Prelude.{Bool}
 use Rattle.mf_base.specs.Buffer.{Buffer, AppendsTo}
-use Rattle.mf_base.specs.Spelling.{big_endian}
 use Rattle.map_model.specs.SubFile.{entry_bytes, index_bytes}
-use Rattle.map_model.proofs.SizeLemmas.{length-big_endian}
 
 pub appends-both : (first second third : Buffer) (a b : List ℕ) → AppendsTo first second a → AppendsTo second third b → AppendsTo first third (a ++ b)
 appends-both first second third a b one two = rw (two, one) (λ i. record { bytes = append_assoc first.bytes a b i; capacity = first.capacity })
@@ -23,9 +21,6 @@ pub puts-five_behind : (first b0 b1 b2 b3 b4 last : Buffer) (front a b c d e : L
 puts-five_behind first b0 b1 b2 b3 b4 last front a b c d e before one two three four five =
     appends-both first b4 last _ _ (appends-both first b3 b4 _ _ (appends-both first b2 b3 _ _ (appends-both first b1 b2 _ _ (appends-both first b0 b1 _ _ before one) two) three) four) five
 
-pub puts-most : (first next : Buffer) (bytes : List ℕ) (n : ℕ) → AppendsTo first next bytes → length bytes ≤ n → length next.bytes ≤ length first.bytes + n
-puts-most first next bytes n put short = rw put (omega (arith, length-append first.bytes bytes, short))
-
 -- ---- index
 
 pub index-of_one : (water : Bool) (bytes : List ℕ) → index_bytes (record { water = water; bytes = bytes } ∷ []) ≡ entry_bytes water 5
@@ -34,6 +29,3 @@ index-of_one water bytes = append-nil (entry_bytes water 5)
 
 pub puts-index : (first next : Buffer) (water : Bool) (bytes : List ℕ) → AppendsTo first next (entry_bytes water 5) → AppendsTo first next (index_bytes (record { water = water; bytes = bytes } ∷ []))
 puts-index first next water bytes put = appends-same first next _ _ (sym (index-of_one water bytes)) put
-
-pub puts-be_most : (first next : Buffer) (width n : ℕ) → AppendsTo first next (big_endian width n) → length next.bytes ≤ length first.bytes + width
-puts-be_most first next width n put = puts-most first next _ width put (let e = length-big_endian width n in omega (arith, e))

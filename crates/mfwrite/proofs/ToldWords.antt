@@ -3,13 +3,13 @@ use Rattle.std.proofs.Common.{◌≡◌, ℕ, ◌≤◌, ◌<◌, ◌^◌, List,
 use Rattle.std.specs.Prelude.{nat_le}
 use Rattle.std.specs.Result.{result_ok}
 use Rattle.std.proofs.lemmas.Bool.{leb-true, and_parts, or_parts, not-true}
+use Rattle.std.proofs.lemmas.Option.{cond_some, none-some, same_Some}
 use Rattle.mf_base.specs.declared.kind.List as which
 use Rattle.mf_base.specs.declared.tile.Interval.{Interval}
 use Rattle.mf_base.specs.Texts.{Text, has_byte}
 use Rattle.mf_base.specs.Ranges.{within_numbers}
 use Rattle.mf_base.specs.Numbers.{number_in, zoom_number, digits_up_to}
 use Rattle.mf_base.specs.Words.{equals}
-use Rattle.mf_base.proofs.StepLaws.{some_is, no_some}
 use Rattle.feature_model.specs.Mapping.{Entry}
 use Rattle.feature_model.specs.Entries.{keeps_entry_rule, is_short, may_have_marks, entry_behind, told_poi}
 use Rattle.mfwrite.specs.FirstWords.{FirstWords, behind, plain_only, is_plain, told_entry, first_entry, first_interval, first_date, last_date, first_told, first_words}
@@ -19,16 +19,12 @@ use Rattle.mfwrite.proofs.Entries.{told-behind, judged}
 -- ---- options
 
 and_then-some : {A B : Type 0} (f : A → Option B) (o : Option A) (y : B) → option_and_then f o ≡ Some y → (x : A) × (o ≡ Some x) × (f x ≡ Some y)
-and_then-some f None y e = absurd (no_some y e)
+and_then-some f None y e = absurd (none-some y e)
 and_then-some f (Some x) y e = (x, refl, e)
 
 map-some : {A B : Type 0} (f : A → B) (o : Option A) (y : B) → option_map f o ≡ Some y → (x : A) × (o ≡ Some x) × (f x ≡ y)
-map-some f None y e = absurd (no_some y e)
-map-some f (Some x) y e = (x, refl, some_is (f x) y e)
-
-kept-where : {A : Type 0} (b : Bool) (x y : A) → cond b (Some x) None ≡ Some y → (b ≡ true) × (x ≡ y)
-kept-where true x y e = (refl, some_is x y e)
-kept-where false x y e = absurd (no_some y e)
+map-some f None y e = absurd (none-some y e)
+map-some f (Some x) y e = (x, refl, same_Some (f x) y e)
 
 -- ---- numbers
 
@@ -36,7 +32,7 @@ number-most : (high : ℕ) (text : Text) (n : ℕ) → number_in 0 high text ≡
 unfolding number_in
 number-most high text n e =
     let found = and_then-some (within_numbers 0 high) (digits_up_to 20 text) n e in
-    let kept = kept-where (nat_le 0 found.0 && nat_le found.0 high) found.0 n found.2 in
+    let kept = cond_some (nat_le 0 found.0 && nat_le found.0 high) found.0 n found.2 in
     rw (sym kept.1) (leb-true found.0 high (and_parts (nat_le 0 found.0) (nat_le found.0 high) kept.0).1)
 
 -- ---- the entry
@@ -63,9 +59,9 @@ kept-entry e h =
 
 told-rules : (told : Option Entry) (e : Entry) → option_and_then plain_only (result_ok (entry_behind which.List.Poi [] told)) ≡ Some e → IsToldEntry e
 unfolding entry_behind
-told-rules None e h = absurd (no_some e h)
+told-rules None e h = absurd (none-some e h)
 told-rules (Some f) e h =
-    let kept = kept-where (keeps_entry_rule which.List.Poi f && is_plain f) f e (sym (judged f) ∙ h) in
+    let kept = cond_some (keeps_entry_rule which.List.Poi f && is_plain f) f e (sym (judged f) ∙ h) in
     rw (sym kept.1) (kept-entry f kept.0)
 
 entry-told : (word : Text) (e : Entry) → first_entry word ≡ Some e → IsToldEntry e
@@ -93,17 +89,17 @@ date-told word date h =
 -- ---- the words
 
 all-told : (entry : Option Entry) (interval : Option Interval) (date : Option ℕ) (w : FirstWords) → first_told entry interval date ≡ Some w → (entry ≡ Some w.entry) × (interval ≡ Some w.interval) × (date ≡ Some w.date)
-all-told (Some e) (Some i) (Some d) w h = let same = some_is (record { entry = e; interval = i; date = d }) w h in (ap (λ (x : FirstWords). Some x.entry) same, ap (λ (x : FirstWords). Some x.interval) same, ap (λ (x : FirstWords). Some x.date) same)
-all-told None i d w h = absurd (no_some w h)
-all-told (Some e) None d w h = absurd (no_some w h)
-all-told (Some e) (Some i) None w h = absurd (no_some w h)
+all-told (Some e) (Some i) (Some d) w h = let same = same_Some (record { entry = e; interval = i; date = d }) w h in (ap (λ (x : FirstWords). Some x.entry) same, ap (λ (x : FirstWords). Some x.interval) same, ap (λ (x : FirstWords). Some x.date) same)
+all-told None i d w h = absurd (none-some w h)
+all-told (Some e) None d w h = absurd (none-some w h)
+all-told (Some e) (Some i) None w h = absurd (none-some w h)
 
 pub words-told : (words : List Text) (w : FirstWords) → first_words words ≡ Some w → AreFirstWords w
 unfolding first_words
-words-told [] w h = absurd (no_some w h)
-words-told (a ∷ []) w h = absurd (no_some w h)
-words-told (a ∷ b ∷ []) w h = absurd (no_some w h)
-words-told (a ∷ b ∷ c ∷ d ∷ more) w h = absurd (no_some w h)
+words-told [] w h = absurd (none-some w h)
+words-told (a ∷ []) w h = absurd (none-some w h)
+words-told (a ∷ b ∷ []) w h = absurd (none-some w h)
+words-told (a ∷ b ∷ c ∷ d ∷ more) w h = absurd (none-some w h)
 words-told (a ∷ b ∷ c ∷ []) w h =
     let all = all-told (first_entry a) (first_interval b) (first_date c) w h in
     let entry = entry-told a w.entry all.0 in

@@ -1,5 +1,5 @@
 use Rattle.std.proofs.Common.{arith}
-use Rattle.mfwrite.proofs.Putting.{puts-most}
+use Rattle.mf_base.proofs.Written.{puts-most}
 use Rattle.mfwrite.proofs.HeadBytes.{head-least, puts-head, length-head}
 use Rattle.mfwrite.proofs.head.put_head.Goals as goal
 
