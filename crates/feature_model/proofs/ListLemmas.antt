@@ -1,5 +1,5 @@
 -- What holds of all items of a list.
-use Rattle.std.proofs.Common.{◌≡◌, ℕ, zero, suc, ◌+◌, List, [], ◌∷◌, map, length, take, Option, Some, None, refl, sym, ap, ◌∙◌, subst, arith}
+use Rattle.std.proofs.Common.{◌≡◌, ℕ, zero, suc, ◌+◌, List, [], ◌∷◌, map, take, Option, Some, None, refl, sym, ap, ◌∙◌, subst, arith}
 use Rattle.std.specs.Prelude.{filter_map, slice_get}
 use Rattle.std.specs.List.{AllByRecursion, enumerate_from, cons_option}
 
@@ -31,10 +31,6 @@ all-numbered P whole n [] all at = tt
 all-numbered P whole n (x ∷ xs) all at =
     let here : slice_get whole n ≡ Some x = ap (slice_get whole) (omega arith) ∙ at 0 in
     ((here, all.0), all-numbered P whole (n + 1) xs all.1 (λ i. ap (slice_get whole) (omega arith) ∙ at (suc i)))
-
-pub length-map_of : {A B : Type 0} (f : A → B) (xs : List A) → length (map f xs) ≡ length xs
-length-map_of f [] = refl
-length-map_of f (x ∷ xs) = ap suc (length-map_of f xs)
 
 pub all-weaker : {A : Type 0} (P Q : A → Type 0) (xs : List A) → ((x : A) → P x → Q x) → AllByRecursion P xs → AllByRecursion Q xs
 all-weaker P Q [] step h = tt
