@@ -8,7 +8,7 @@ use Rattle.mf_base.proofs.OneSpelling.{vbe-small, length-vbe_unsigned-63}
 use Rattle.mf_base.proofs.ByteLaws.{length-big_endian}
 use Rattle.map_model.specs.Listed.{TagLists}
 use Rattle.map_model.specs.Header.{HeadSettings, SubFile, magic_word, mercator_word, box_bytes, interval_bytes, middle_bytes, fields_bytes, header_fields_bytes, written_header, header_size, header_bytes, sub_files}
-use Rattle.map_model.proofs.SizeLemmas.{length-fields, length-header_bytes}
+use Rattle.map_model.proofs.SizeLemmas.{length-fields}
 use Rattle.mfwrite.specs.FirstHead.{settings_of, tag_lists_of}
 use Rattle.mfwrite.specs.declared.head.FirstHead.{FirstHead}
 use Rattle.mfwrite.proofs.Putting.{appends-both, appends-same}
@@ -64,6 +64,14 @@ length-middle : (head : FirstHead) → length (middle_bytes 256 0 (settings_of h
     ≡ 17 + length (vbe_unsigned (length (head.key.now ++ 61 ∷ head.value.now))) + length (head.key.now ++ 61 ∷ head.value.now)
 length-middle head = ap length (middle-is head) ∙ length-parts (head.key.now ++ 61 ∷ head.value.now)
 
+-- at most 538 bytes
+pub middle-short : (head : FirstHead) → length head.key.now ≤ 255 → length head.value.now ≤ 255 → length (middle_bytes 256 0 (settings_of head) (tag_lists_of head)) ≤ 538
+middle-short head key value =
+    let tag = length (head.key.now ++ 61 ∷ head.value.now) in
+    let long : tag ≡ length head.key.now + suc (length head.value.now) = length-append head.key.now (61 ∷ head.value.now) in
+    let few = length-vbe_unsigned-63 tag (omega (arith, long, key, value)) in
+    omega (arith, long, key, value, few, length-middle head)
+
 -- ---- size
 
 -- 96 bytes besides the tag, whose length stands before it
@@ -75,11 +83,8 @@ first_head-size head tag size e s =
     omega (arith, middle, n, e, s)
 
 pub head-small : (head : FirstHead) → length head.key.now ≤ 255 → length head.value.now ≤ 255 → header_size (settings_of head) (tag_lists_of head) ≤ 617
-head-small head key value =
-    let tag = length (head.key.now ++ 61 ∷ head.value.now) in
-    let long : tag ≡ length head.key.now + suc (length head.value.now) = length-append head.key.now (61 ∷ head.value.now) in
-    let few = length-vbe_unsigned-63 tag (omega (arith, long, key, value)) in
-    omega (arith, long, key, value, few, first_head-size head tag (length (vbe_unsigned tag)) refl refl)
+unfolding header_size
+head-small head key value = omega (arith, middle-short head key value)
 
 pub head-least : (head : FirstHead) → 24 ≤ header_size (settings_of head) (tag_lists_of head)
 unfolding header_size
@@ -139,8 +144,3 @@ puts-head first b2 b3 b4 last head box start size e front corners middle interva
     appends-same first last _ _ (sym (head-is head box size)) (
     appends-both first b4 last _ _ (appends-both first b3 b4 _ _ (appends-both first b2 b3 _ _ (appends-same first b2 _ _ (ap front_of e) front) corners) middle) (appends-same b4 last _ _ (ap sub_of e) interval)
     )
-
-pub length-head : (head : FirstHead) (box : Rect) (size : ℕ) → length (header_bytes (settings_of head) box (tag_lists_of head) (sub_files (header_size (settings_of head) (tag_lists_of head)) (size ∷ []))) ≡ header_size (settings_of head) (tag_lists_of head)
-length-head head box size =
-    let start = header_size (settings_of head) (tag_lists_of head) in
-    length-header_bytes (settings_of head) box (tag_lists_of head) (sub_files start (size ∷ [])) (ap length (sub_files-one start size))

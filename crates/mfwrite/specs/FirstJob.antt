@@ -1,6 +1,5 @@
 -- A job of three words: what the words tell, and the room that it has. This project's profile.
 use Rattle.std.specs.Prelude.{◌≡◌, ◌≤◌, ◌<◌, ◌^◌, ℕ, ◌+◌, ◌*◌, true, false, [], ◌∷◌, vec_capacity}
-use Rattle.osm_model.specs.Entities.{node}
 use Rattle.feature_model.specs.Mapping.{Mapping}
 use Rattle.feature_model.specs.Entries.{is_short}
 use Rattle.map_model.specs.Listed.{TagLists, tag_lists}
@@ -48,6 +47,6 @@ pub record IsEmptyRoom (room : Room) : Type 0 where
   pub input : room.block.capacity ≡ first_limit + 1
   pub no_pois : room.pois.items ≡ []
   pub many_pois : most_pois ≤ vec_capacity room.pois
-  pub no_tile : room.tile ≡ record { bytes = []; capacity = 32 * most_pois + 512 }
-  pub no_front : room.front ≡ record { bytes = []; capacity = 805 }
+  pub no_tile : room.tile ≡ record { bytes = []; capacity = 13 * most_pois + 460 }
+  pub no_front : room.front ≡ record { bytes = []; capacity = 622 }
   pub no_line : room.line ≡ record { bytes = []; capacity = 300 }

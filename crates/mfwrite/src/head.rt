@@ -55,7 +55,7 @@ pub fn put_head(out: &mut OutBuf, head: &FirstHead, bounds: &Rect, size: u64)
     requires key { length head.now.key.now ≤ 255 }
     requires value { length head.now.value.now ≤ 255 }
     requires size { header_size (settings_of head.now) (tag_lists_of head.now) + size < 2 ^ 63 }
-    requires room { HasRoom out.old 800 }
+    requires room { HasRoom out.old 617 }
     ensures appends { AppendsTo out.old out.new (header_bytes (settings_of head.now) bounds.now (tag_lists_of head.now) (sub_files (header_size (settings_of head.now) (tag_lists_of head.now)) (size ∷ []))) }
     ensures most { length out.new.bytes ≤ length out.old.bytes + 617 }
 {
@@ -69,9 +69,9 @@ pub fn put_head(out: &mut OutBuf, head: &FirstHead, bounds: &Rect, size: u64)
 // Puts the fields before the box: the magic bytes, the header size, the version, the file size and the date.
 fn put_front(out: &mut OutBuf, after: u64, total: u64, date: u64)
     requires after { after < 2 ^ 32 }
-    requires room { HasRoom out.old 60 }
+    requires room { HasRoom out.old 44 }
     ensures appends { AppendsTo out.old out.new (magic_word ++ big_endian 4 after ++ big_endian 4 5 ++ big_endian 8 total ++ big_endian 8 date) }
-    ensures most { length out.new.bytes ≤ length out.old.bytes + 60 }
+    ensures most { length out.new.bytes ≤ length out.old.bytes + 44 }
 {
     out.put(b"mapsforge binary OSM");
     put_be(out, after, 4);
@@ -82,9 +82,9 @@ fn put_front(out: &mut OutBuf, after: u64, total: u64, date: u64)
 
 // Puts the bounding box: the least latitude and longitude, then the greatest.
 fn put_box(out: &mut OutBuf, bounds: &Rect)
-    requires room { HasRoom out.old 40 }
+    requires room { HasRoom out.old 16 }
     ensures appends { AppendsTo out.old out.new (box_bytes bounds.now) }
-    ensures most { length out.new.bytes ≤ length out.old.bytes + 40 }
+    ensures most { length out.new.bytes ≤ length out.old.bytes + 16 }
 {
     put_signed(out, bounds.min_lat);
     put_signed(out, bounds.min_lon);
@@ -96,7 +96,7 @@ fn put_box(out: &mut OutBuf, bounds: &Rect)
 fn put_signed(out: &mut OutBuf, v: i32)
     requires room { HasRoom out.old 4 }
     ensures appends { AppendsTo out.old out.new (be_signed v) }
-    ensures most { length out.new.bytes ≤ length out.old.bytes + 10 }
+    ensures most { length out.new.bytes ≤ length out.old.bytes + 4 }
 {
     put_be(out, u64::from(v.cast_unsigned()), 4);
 }
@@ -105,9 +105,9 @@ fn put_signed(out: &mut OutBuf, v: i32)
 fn put_middle(out: &mut OutBuf, head: &FirstHead)
     requires key { length head.now.key.now ≤ 255 }
     requires value { length head.now.value.now ≤ 255 }
-    requires room { HasRoom out.old 590 }
+    requires room { HasRoom out.old 547 }
     ensures appends { AppendsTo out.old out.new (middle_bytes 256 0 (settings_of head.now) (tag_lists_of head.now)) }
-    ensures most { length out.new.bytes ≤ length out.old.bytes + 590 }
+    ensures most { length out.new.bytes ≤ length out.old.bytes + 538 }
 {
     put_be(out, TILE_SIZE, 2);
     let projection = b"Mercator";
@@ -146,9 +146,9 @@ fn tag_size(key: &str, value: &str) -> u64
 
 // Puts an interval: its zooms, then where its sub-file starts and how many bytes it has.
 fn put_interval(out: &mut OutBuf, interval: Interval, start: u64, size: u64)
-    requires room { HasRoom out.old 50 }
+    requires room { HasRoom out.old 19 }
     ensures appends { AppendsTo out.old out.new (interval_bytes (interval, record { start = start; size = size })) }
-    ensures most { length out.new.bytes ≤ length out.old.bytes + 50 }
+    ensures most { length out.new.bytes ≤ length out.old.bytes + 19 }
 {
     put_be(out, u64::from(interval.base), 1);
     put_be(out, u64::from(interval.min), 1);
@@ -165,8 +165,8 @@ mod tests {
     // The header of a map of one bench, whose sub-file has 34 bytes.
     #[test]
     fn one_bench(rt: HostRuntime) -> Result<(), Fail> {
-        let mut out = OutBuf::new(rt.alloc(), 800)?;
-        assert!(rt; out.spare() >= 800);
+        let mut out = OutBuf::new(rt.alloc(), 617)?;
+        assert!(rt; out.spare() >= 617);
         let head = FirstHead {
             date: 1700000000000,
             interval: Interval {

@@ -118,8 +118,8 @@ impl Room {
         Ok(Room {
             block: Block::new(alloc, INPUT_LIMIT + 1)?,
             pois: Vec::with_capacity(alloc, MOST_POIS)?,
-            tile: OutBuf::new(alloc, 32 * MOST_POIS + 512)?,
-            front: OutBuf::new(alloc, 805)?,
+            tile: OutBuf::new(alloc, 13 * MOST_POIS + 460)?,
+            front: OutBuf::new(alloc, 622)?,
             line: OutBuf::new(alloc, 300)?,
         })
     }

@@ -103,8 +103,8 @@ fn spell_map(
 ) -> Counts
     requires words { AreFirstWords (words_shown words.now) }
     requires form { IsFirstForm input.now }
-    requires front { front.old ≡ record { bytes = []; capacity = 805 } }
-    requires tile { tile.old ≡ record { bytes = []; capacity = 32 * most_pois + 512 } }
+    requires front { front.old ≡ record { bytes = []; capacity = 622 } }
+    requires tile { tile.old ≡ record { bytes = []; capacity = 13 * most_pois + 460 } }
     requires pois { pois.old.items ≡ [] }
     requires room { most_pois ≤ vec_capacity pois.old }
     ensures map { front.new.bytes ++ tile.new.bytes ≡ first_map (words_shown words.now) input.now }
@@ -134,8 +134,8 @@ fn put_tile(
 )
     requires words { AreFirstWords (words_shown words.now) }
     requires few { length pois.now ≤ most_pois }
-    requires front { front.old ≡ record { bytes = []; capacity = 805 } }
-    requires tile { tile.old ≡ record { bytes = []; capacity = 32 * most_pois + 512 } }
+    requires front { front.old ≡ record { bytes = []; capacity = 622 } }
+    requires tile { tile.old ≡ record { bytes = []; capacity = 13 * most_pois + 460 } }
     requires members { AreMembers words.now.interval pois.now }
     ensures tile { tile.new.bytes ≡ first_tile_bytes words.now.interval world_corner pois.now }
     ensures front { front.new.bytes ≡ front_bytes (words_shown words.now) bounds.now (length tile.new.bytes) }
@@ -149,7 +149,7 @@ fn put_tile(
 fn put_front(out: &mut OutBuf, words: &FirstWords, bounds: &Rect, size: usize)
     requires words { AreFirstWords (words_shown words.now) }
     requires size { size < 2 ^ 32 }
-    requires room { HasRoom out.old 805 }
+    requires room { HasRoom out.old 622 }
     ensures appends { AppendsTo out.old out.new (front_bytes (words_shown words.now) bounds.now size) }
     ensures most { length out.new.bytes ≤ length out.old.bytes + 622 }
 {
