@@ -1,5 +1,5 @@
 -- Texts cut by the functions of std, in the words of the definitions.
-use Rattle.std.proofs.Common.{◌≡◌, ◌≢◌, ℕ, suc, ◌+◌, ◌-◌, ◌<◌, ◌≤◌, [], ◌∷◌, ◌++◌, reverse, length, take, drop, get_or, refl, sym, ap, subst, ◌∙◌, arith, ⊎_elim, true, false, Option, Some, None, option_map, MatchOption, Bor, take-append-drop, ne_eqb, eq-eqb}
+use Rattle.std.proofs.Common.{◌≡◌, ◌≢◌, ℕ, suc, ◌+◌, ◌-◌, ◌<◌, ◌≤◌, [], ◌∷◌, ◌++◌, reverse, length, take, drop, get_or, refl, sym, ap, subst, ◌∙◌, arith, ⊎_elim, true, false, Option, Some, None, option_map, MatchOption, Bor, take-append-drop, ne_eqb}
 use Rattle.std.specs.Prelude.{nat_eq}
 use Rattle.std.specs.Str.{NoCharPasses}
 use Rattle.std.specs.Str.Pattern.{FindsTextPrefix, StripsPrefix, RFindsChar}
@@ -8,7 +8,7 @@ use Rattle.std.proofs.lemmas.Bool.Decides.{Decides-eqb}
 use Rattle.std.proofs.lemmas.Slice.Eq.{starts_is}
 use Rattle.std.proofs.lemmas.Str.Pattern.{NoCharPasses-char, drop_at_char}
 use Rattle.std.proofs.lemmas.List.{reverse-append, reverse-reverse, length-reverse, get_or-reverse, append_assoc}
-use Rattle.mf_base.specs.Texts.{Text, begins, has_byte, cut, cut_last}
+use Rattle.mf_base.specs.Texts.{Text, begins, has_byte, cut_last}
 use Rattle.mf_base.proofs.WordLaws.{cut-at, cut-absent}
 use Rattle.mfwrite.specs.FirstWords.{behind}
 

@@ -1,8 +1,8 @@
 -- How many nodes an input of the first form can have.
-use Rattle.std.proofs.Common.{◌≡◌, ℕ, ◌+◌, ◌*◌, ◌≤◌, Bool, true, false, ◌&&◌, if◌then◌else◌, List, [], ◌∷◌, ◌++◌, length, map, filter, Option, Some, None, refl, arith, length-append}
+use Rattle.std.proofs.Common.{◌≡◌, ℕ, ◌+◌, ◌*◌, ◌≤◌, Bool, true, false, ◌&&◌, List, [], ◌∷◌, ◌++◌, length, map, filter, Option, Some, None, refl, arith, length-append}
 use Rattle.std.specs.Prelude.{ℤ, pos, flat_map, codes, ◌-ℤ◌}
 use Rattle.std.proofs.lemmas.List.{length-map}
-use Rattle.mf_base.specs.Spelling.{string, vbe_unsigned, zigzag_of, big_endian}
+use Rattle.mf_base.specs.Spelling.{vbe_unsigned, zigzag_of, big_endian}
 use Rattle.mf_base.specs.Texts.{Text}
 use Rattle.mf_base.proofs.OneSpelling.{length-vbe-positive}
 use Rattle.pbf_frame.proofs.FirstFields.{field-longer}
@@ -41,11 +41,23 @@ nodes-long nodes =
     let first = bytes_field 1 (delta_column ids) in
     let second = bytes_field 8 (delta_column lats) in
     let third = bytes_field 9 (delta_column lons) in
-    omega (arith, parts-long nodes, field-longer 10 parts,
-      column-long (pos 0) ids, field-longer 1 (delta_column ids), length-map nodes (λ (n : StoredNode). pos n.id),
-      column-long (pos 0) lats, field-longer 8 (delta_column lats), length-map nodes (λ (n : StoredNode). n.lat),
-      column-long (pos 0) lons, field-longer 9 (delta_column lons), length-map nodes (λ (n : StoredNode). n.lon),
-      length-append first second, length-append (first ++ second) third, length-append ((first ++ second) ++ third) (bytes_field 10 parts))
+    omega (
+      arith,
+      parts-long nodes,
+      field-longer 10 parts,
+      column-long (pos 0) ids,
+      field-longer 1 (delta_column ids),
+      length-map nodes (λ (n : StoredNode). pos n.id),
+      column-long (pos 0) lats,
+      field-longer 8 (delta_column lats),
+      length-map nodes (λ (n : StoredNode). n.lat),
+      column-long (pos 0) lons,
+      field-longer 9 (delta_column lons),
+      length-map nodes (λ (n : StoredNode). n.lon),
+      length-append first second,
+      length-append (first ++ second) third,
+      length-append ((first ++ second) ++ third) (bytes_field 10 parts),
+    )
 
 blob-long : (kind : Text) (raw : List ℕ) → length raw ≤ length (blob kind raw)
 unfolding blob

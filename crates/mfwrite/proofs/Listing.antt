@@ -1,6 +1,5 @@
 -- The list of POIs, node by node.
-use Rattle.std.proofs.Common.{◌≡◌, ℕ, ◌+◌, ◌<◌, ◌≤◌, Bool, true, false, ◌&&◌, if◌then◌else◌, List, [], ◌∷◌, ◌++◌, length, map, filter, refl, sym, ◌∙◌, arith, append_assoc, append-nil, length-append}
-use Rattle.mf_base.specs.declared.place.Place.{Place}
+use Rattle.std.proofs.Common.{◌≡◌, ℕ, ◌+◌, ◌<◌, Bool, true, false, ◌&&◌, if◌then◌else◌, List, [], ◌∷◌, ◌++◌, length, map, filter, refl, sym, ◌∙◌, arith, append_assoc, append-nil, length-append}
 use Rattle.pbf_frame.specs.declared.first_node.FirstNode.{FirstNode}
 use Rattle.tile_body.specs.declared.first_tile.FirstPoi.{FirstPoi}
 use Rattle.pbf_frame.specs.FirstForm.{FirstValue, nodes_told, tag_told}

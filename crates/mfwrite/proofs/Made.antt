@@ -1,19 +1,13 @@
 -- The map that is made.
-use Rattle.std.proofs.Common.{◌≡◌, ℕ, ◌+◌, ◌*◌, ◌≤◌, ◌<◌, ◌^◌, Bool, true, false, if◌then◌else◌, List, [], ◌∷◌, ◌++◌, length, map, refl, sym, ap, ◌∙◌, arith, append_assoc, length-append}
+use Rattle.std.proofs.Common.{◌≡◌, ℕ, ◌*◌, ◌≤◌, Bool, true, false, if◌then◌else◌, List, [], ◌++◌, length, map, refl, sym, ap, ◌∙◌, arith}
 use Rattle.std.specs.Prelude.{nat_le, min, max}
 use Rattle.std.proofs.lemmas.List.{length-map}
-use Rattle.mf_base.specs.Buffer.{Buffer, AppendsTo}
-use Rattle.mf_base.specs.declared.place.Rect.{Rect}
-use Rattle.mf_base.proofs.ByteLaws.{length-big_endian}
-use Rattle.map_model.specs.Header.{header_size, header_bytes, sub_files}
-use Rattle.map_model.specs.SubFile.{entry_bytes}
 use Rattle.map_model.specs.MapFile.{Report, report}
-use Rattle.map_model.proofs.SizeLemmas.{length-header_bytes}
 use Rattle.pbf_frame.specs.FirstForm.{FirstValue, IsFirstForm, bounds_told, nodes_told}
 use Rattle.tile_body.specs.declared.first_tile.FirstPoi.{FirstPoi}
 use Rattle.tile_body.specs.FirstTile.{AreMembers, first_tile_bytes}
 use Rattle.mfwrite.specs.FirstWords.{FirstWords}
-use Rattle.mfwrite.specs.FirstJob.{AreFirstWords, settings, tags_listed}
+use Rattle.mfwrite.specs.FirstJob.{AreFirstWords}
 use Rattle.mfwrite.specs.FirstMap.{matching, poi_of, pois, shown_of, first_map, first_report, front_bytes, tile_told, world_corner}
 use Rattle.mfwrite.proofs.FirstSizes.{few-matching}
 use Rattle.mfwrite.proofs.OneMap.{map-told, report-told}

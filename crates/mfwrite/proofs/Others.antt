@@ -1,5 +1,5 @@
 -- Inputs that are not of the first form.
-use Rattle.std.proofs.Common.{◌≡◌, ◌≢◌, ◌⊎◌, inl, inr, ◌<◌, ℕ, List, [], ◌++◌, length, Option, Some, None, arith, ap, sym, ◌∙◌, append-nil, length-append}
+use Rattle.std.proofs.Common.{◌≡◌, ◌≢◌, ◌⊎◌, inl, inr, ◌<◌, ℕ, List, length, Option, Some, None, arith, ap, sym, ◌∙◌, append-nil, length-append}
 use Rattle.mf_edge.specs.Device.{Takes, IsAtEnd}
 use Rattle.pbf_frame.specs.FirstForm.{FirstValue, IsFirstForm, first_bytes, first_limit}
 use Rattle.mfwrite.specs.FirstRun.{IsOther}

@@ -1,5 +1,5 @@
 -- Parts that are put one after another.
-use Rattle.std.proofs.Common.{◌≡◌, ℕ, ◌+◌, ◌≤◌, List, [], ◌∷◌, ◌++◌, length, arith, append_assoc, append-nil, length-append, sym}
+use Rattle.std.proofs.Common.{◌≡◌, ℕ, List, [], ◌∷◌, ◌++◌, append_assoc, append-nil, sym}
 use Rattle.std.specs.Prelude.{Bool}
 use Rattle.mf_base.specs.Buffer.{Buffer, AppendsTo}
 use Rattle.map_model.specs.SubFile.{entry_bytes, index_bytes}

@@ -1,5 +1,5 @@
 -- What three words tell is a job of one plain entry and one sub-file.
-use Rattle.std.proofs.Common.{◌≡◌, ℕ, ◌≤◌, ◌<◌, ◌^◌, List, [], ◌∷◌, refl, sym, ap, ◌∙◌, arith, Bool, true, false, not, ◌&&◌, ◌||◌, Option, Some, None, option_map, option_and_then, codes, cond}
+use Rattle.std.proofs.Common.{◌≡◌, ℕ, ◌≤◌, ◌<◌, ◌^◌, List, [], ◌∷◌, refl, sym, ap, ◌∙◌, arith, true, false, not, ◌&&◌, ◌||◌, Option, Some, None, option_map, option_and_then, codes}
 use Rattle.std.specs.Prelude.{nat_le}
 use Rattle.std.specs.Result.{result_ok}
 use Rattle.std.proofs.lemmas.Bool.{leb-true, and_parts, or_parts, not-true}

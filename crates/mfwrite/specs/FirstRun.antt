@@ -1,6 +1,6 @@
 -- What a run says, and what it does to its devices: this project's profile.
-use Rattle.std.specs.Prelude.{◌≡◌, ◌≢◌, ◌↔◌, ◌⊎◌, ◌<◌, ◌==◌, ℕ, ◌+◌, if◌then◌else◌, List, [], ◌∷◌, ◌++◌, map, length, codes, Option, Some, None}
-use Rattle.map_model.specs.MapFile.{report, report_line}
+use Rattle.std.specs.Prelude.{◌≡◌, ◌≢◌, ◌↔◌, ◌⊎◌, ◌<◌, ◌==◌, ℕ, if◌then◌else◌, List, [], ◌∷◌, ◌++◌, length, codes, Option, Some, None}
+use Rattle.map_model.specs.MapFile.{report_line}
 use Rattle.mf_edge.specs.Device.{Takes, IsAtEnd, Gains, GainsFront, HasRisen}
 use Rattle.pbf_frame.specs.FirstForm.{FirstValue, IsFirstForm, first_bytes, first_limit}
 use Rattle.mfwrite.specs.FirstWords.{FirstWords}

@@ -1,4 +1,4 @@
-use Rattle.std.proofs.Common.{rules, arith, ap, ◌≡◌, ◌≤◌, ◌<◌, ◌∙◌, ◌∷◌, length}
+use Rattle.std.proofs.Common.{rules, arith, ap, ◌≡◌, ◌∙◌, ◌∷◌, length}
 use Rattle.std.proofs.lemmas.List.{length-map}
 use Rattle.mfwrite.specs.FirstMap.{matching, poi_of}
 use Rattle.mfwrite.specs.Shown.{words_shown}
