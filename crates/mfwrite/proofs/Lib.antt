@@ -15,7 +15,6 @@ pub mod Matching
 pub mod OneTile
 pub mod OneMap
 pub mod ToldWords
-pub mod HeadOfWords
 pub mod BenchRows
 pub mod Statuses
 pub mod Programs

@@ -1,5 +1,5 @@
 -- The list of POIs, node by node.
-use Rattle.std.proofs.Common.{◌≡◌, ℕ, ◌+◌, ◌<◌, Bool, true, false, ◌&&◌, if◌then◌else◌, List, [], ◌∷◌, ◌++◌, length, map, filter, refl, sym, ◌∙◌, arith, append_assoc, append-nil, length-append}
+use Rattle.std.proofs.Common.{◌≡◌, ℕ, ◌+◌, ◌<◌, Bool, true, ◌&&◌, List, [], ◌∷◌, ◌++◌, length, map, filter, refl, sym, ◌∙◌, arith, append-nil, length-append}
 use Rattle.pbf_frame.specs.declared.first_node.FirstNode.{FirstNode}
 use Rattle.tile_body.specs.declared.first_tile.FirstPoi.{FirstPoi}
 use Rattle.pbf_frame.specs.FirstForm.{FirstValue, nodes_told, tag_told}
@@ -18,22 +18,6 @@ pois_of zoom wanted nodes = map (as_poi zoom) (filter (λ (n : FirstNode). n.tag
 pub record Lists (zoom : ℕ) (wanted : Bool) (listed : List FirstPoi) (count : ℕ) (left : List FirstNode) (pois : List FirstPoi) (nodes : ℕ) : Type 0 where
   pub rest : listed ++ pois_of zoom wanted left ≡ pois
   pub counted : count + length left ≡ nodes
-
--- the list with the node that comes next
-abbrev pub with_node : ℕ → Bool → List FirstPoi → FirstNode → List FirstPoi
-with_node zoom wanted listed n = listed ++ (if n.tagged && wanted then as_poi zoom n ∷ [] else [])
-
-next-poi : (zoom : ℕ) (wanted matches : Bool) (listed : List FirstPoi) (n : FirstNode) (left : List FirstNode) → matches ≡ n.tagged && wanted
-    → (listed ++ (if matches then as_poi zoom n ∷ [] else [])) ++ pois_of zoom wanted left ≡ listed ++ pois_of zoom wanted (n ∷ left)
-next-poi zoom wanted true listed n left is = rw (sym is, append_assoc listed (as_poi zoom n ∷ []) (pois_of zoom wanted left)) refl
-next-poi zoom wanted false listed n left is = rw (sym is, append-nil listed) refl
-
-pub lists-more : (zoom : ℕ) (wanted : Bool) (listed : List FirstPoi) (count : ℕ) (n : FirstNode) (before left : List FirstNode) (pois : List FirstPoi) (nodes : ℕ) → before ≡ n ∷ left
-    → Lists zoom wanted listed count before pois nodes → Lists zoom wanted (with_node zoom wanted listed n) (count + 1) left pois nodes
-lists-more zoom wanted listed count n before left pois nodes next h = let counted = rw next at h.counted in record {
-  rest = next-poi zoom wanted (n.tagged && wanted) listed n left refl ∙ (rw next at h.rest);
-  counted = omega (arith, counted);
-}
 
 pub lists-room : (zoom : ℕ) (wanted : Bool) (listed : List FirstPoi) (count : ℕ) (n : FirstNode) (before left : List FirstNode) (pois : List FirstPoi) (nodes : ℕ) → before ≡ n ∷ left
     → Lists zoom wanted listed count before pois nodes → (n.tagged && wanted) ≡ true → length listed < length pois

@@ -10,10 +10,3 @@ write-is Read is = absurd (omega (arith, is))
 write-is Write is = refl
 write-is Memory is = absurd (omega (arith, is))
 write-is NotBuilt is = absurd (omega (arith, is))
-
--- only what is not of the first form has status 11
-pub not_built-is : (f : Fault) → fault_status f ≡ 11 → f ≡ NotBuilt
-not_built-is Read is = absurd (omega (arith, is))
-not_built-is Write is = absurd (omega (arith, is))
-not_built-is Memory is = absurd (omega (arith, is))
-not_built-is NotBuilt is = refl

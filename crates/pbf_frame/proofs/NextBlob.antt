@@ -1,5 +1,5 @@
 -- Blobs that are passed over, and what comes behind them.
-use Rattle.std.proofs.Common.{◌≡◌, ◌∙◌, ℕ, ◌+◌, ◌<◌, List, [], ◌∷◌, ◌++◌, length, refl, sym, ap, subst, arith, true, Option, Some, None, Result, Ok, Err, append_assoc, append-nil, length-append}
+use Rattle.std.proofs.Common.{◌≡◌, ◌∙◌, ℕ, ◌+◌, ◌<◌, List, [], ◌∷◌, ◌++◌, length, refl, sym, ap, subst, arith, true, Option, Some, Result, Ok, Err, append_assoc, append-nil, length-append}
 use Rattle.std.specs.Prelude.{slice_range}
 use Rattle.std.proofs.lemmas.List.Elements.{filter-append}
 use Rattle.mf_edge.specs.Device.{IsAtEnd}
@@ -25,9 +25,6 @@ frames_join at (f ∷ fs) gs x y (front, rest, placed, near, spelled, more, whol
 
 one_frame : (f : Frame) (at : ℕ) (y : List ℕ) → f.at ≡ at → at < offset_limit → SpellsFrame f.content y → AreFrames at y (f ∷ [])
 one_frame f at y placed near spelled = (y, [], placed, near, spelled, refl, sym (append-nil y))
-
-pub passes-none : (at : ℕ) → PassesOver at []
-passes-none at = record { passed = []; unknown = refl; spelled = refl }
 
 pub passes-more : (at m : ℕ) (block : List ℕ) (left : Option (List ℕ)) (x y : List ℕ) → PassesOver at x → m ≡ at + length x → SpellsStep m block left Passed y → PassesOver at (x ++ y)
 passes-more at m block left x y h place (near, kind, spelled) =
@@ -64,10 +61,6 @@ took-passed before mid now at m to block first h =
 pub takes-blob : (before mid now : Option (List ℕ)) (at m to : ℕ) (block : List ℕ) (f : given.Frame) → Took before at (PassesOver at) mid m → Took mid m (SpellsStep m block now (Kept f)) now to → TakesBlobs before at block (Ok (Some f)) now to
 takes-blob before mid now at m to block f first h =
     Took-then before mid now at m to (λ x. PassesOver at x × (m ≡ at + length x)) (SpellsStep m block now (Kept f)) (λ b. LeadsTo at b (frame_shown block f)) (counted before mid at m (PassesOver at) first) h (λ x y p q. leads-to at m block now f x y p.0 p.1 q)
-
-pub takes-end : (before mid now : Option (List ℕ)) (at m to : ℕ) (block : List ℕ) → Took before at (PassesOver at) mid m → Took mid m (SpellsStep m block now End) now to → TakesBlobs before at block (Ok None) now to
-takes-end before mid now at m to block first h =
-    Took-then before mid now at m to (PassesOver at) (SpellsStep m block now End) (λ b. PassesOver at b × IsAtEnd now) first h (λ x y p q. passes-end at m block now x y p q)
 
 fails-behind : (at m told : ℕ) (fault : FrameFault) (left : Option (List ℕ)) (x y : List ℕ) → PassesOver at x → m ≡ at + length x → told ≡ m → BeginsNoBlob m fault left y → FailsBehind at told fault left (x ++ y)
 fails-behind at m told fault left x y h place same begins =

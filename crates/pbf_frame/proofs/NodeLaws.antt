@@ -254,9 +254,6 @@ off_earth answer lat lon n is none f g e h place =
     let near : answer ≡ true = is ∙ ap (λ (z : ℤ). is_coordinate plain_head (kept z) (kept lon)) e ∙ ap (λ (z : ℤ). is_coordinate plain_head (kept n.lat) (kept z)) h ∙ (rw (to_z-of_z w64 n.lat f, to_z-of_z w64 n.lon g) place) in
     both_ways answer none near
 
-same_node : (n : StoredNode) (id : ℕ) (lat lon : ℤ) (tagged : Bool) → id ≡ n.id → lat ≡ n.lat → lon ≡ n.lon → tagged ≡ n.tagged → record n { id = id; lat = lat; lon = lon; tagged = tagged } ≡ n
-same_node n id lat lon tagged e f g h = rw (e, f, g, h) refl
-
 pub shorter : (c left : ColumnsLeft) (n : StoredNode) → BeginWith c n left → length left.ids < length c.ids
 shorter c left n b =
     let k = zigzag_of (pos n.id -ℤ pos c.id) in
