@@ -145,15 +145,24 @@ const HIGH_TOP: &[u8] =
 const FAR_LEFT: &[u8] =
     b"\0\0\0\x0d\x0a\x09OSMHeader\x189\x0a7\x0a\x19\x08\x81\xa0\xb0\x8d\xbd\x0a\x10\x80\xa8\xd6\xb9\x07\x18\x80\xa8\xd6\xb9\x07 \xff\xa7\xd6\xb9\x07\x22\x0eOsmSchema-V0.6\x22\x0aDenseNodes";
 
-// A header blob and what follows, with the status: places and sides at the ends of the earth and beyond, an id twice.
+// Two string tables, and a key that has a field of its own.
+const TWO_TABLES: &[u8] =
+    b"\0\0\0\x0b\x0a\x07OSMData\x18<\x0a:\x0a\x12\x0a\0\x0a\x07amenity\x0a\x05bench\x0a\x12\x0a\0\x0a\x07amenity\x0a\x05bench\x12\x10\x12\x0e\x0a\x01\x02B\x01\0J\x01\0R\x03\x01\x02\0";
+
+const NAME: &[u8] =
+    b"\0\0\0\x0b\x0a\x07OSMData\x18%\x0a#\x0a\x0f\x0a\0\x0a\x04name\x0a\x05bench\x12\x10\x12\x0e\x0a\x01\x02B\x01\0J\x01\0R\x03\x01\x02\0";
+
+// A header blob and what follows, with the status: places and sides at the ends of the earth and beyond, an id twice, string tables.
 #[test]
-fn ends_of_the_earth(rt: HostRuntime) -> Result<(), Fail> {
+fn other_blobs(rt: HostRuntime) -> Result<(), Fail> {
     let inputs = [
         (EARTH, CORNER, 0),
         (HEADER, CORNER, 0),
         (HEADER, NORTH, 11),
         (HEADER, EAST, 11),
         (HEADER, SAME_ID, 11),
+        (HEADER, TWO_TABLES, 11),
+        (HEADER, NAME, 11),
         (HIGH_TOP, BENCH, 11),
         (FAR_LEFT, BENCH, 11),
     ];
