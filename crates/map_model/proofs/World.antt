@@ -26,7 +26,7 @@ pub corner-world : corner 0 0 0 ≡ world_corner
 unfolding latitudes
 corner-world = refl
 
-column-zero : (lon : ℤ) → column 0 lon ≡ 0
+pub column-zero : (lon : ℤ) → column 0 lon ≡ 0
 unfolding column
 column-zero lon = omega arith
 

@@ -1,6 +1,6 @@
 //! Laws of the definitions.
 
-ghost use Rattle.std.specs.Prelude.{◌≡◌, ◌↔◌, IsTrue, not, slice_get, Some, None, ◌==◌, flat_map, count_by, filter, ℕ, ℤ, Bool, ◌≤◌, ◌<◌, ◌*◌, ◌^◌, ◌≤ℤ◌, int_le, false, List, ◌∷◌, ◌++◌, length, map, Ok};
+ghost use Rattle.std.specs.Prelude.{◌≡◌, ◌↔◌, IsTrue, not, slice_get, Some, None, ◌==◌, flat_map, count_by, filter, ℕ, ℤ, Bool, ◌≤◌, ◌<◌, ◌*◌, ◌^◌, ◌≤ℤ◌, int_le, true, false, pos, negsuc, List, [], ◌∷◌, ◌++◌, length, map, Ok};
 ghost use Rattle.std.specs.List.{AllByRecursion};
 ghost use Rattle.byteorder.specs.Endian.{big_number};
 ghost use Rattle.mf_base.specs.declared.place.Rect.{Rect};
@@ -10,8 +10,8 @@ ghost use Rattle.mf_base.specs.declared.tile.TileRect.{TileRect};
 ghost use Rattle.mf_base.specs.Texts.{has_byte};
 ghost use Rattle.feature_model.specs.Mapping.{Entry};
 ghost use Rattle.feature_model.specs.Features.{Feature};
-ghost use Rattle.map_model.specs.Mercator.{edge_lat, fine_row, IsFineRow};
-ghost use Rattle.map_model.specs.Tiles.{has_tile, common, tiles_of, tile_count, entry_place, in_order, members, is_poi, is_way, effective_zoom, zooms, sub_tile_bits};
+ghost use Rattle.map_model.specs.Mercator.{edge_lat, fine_row, IsFineRow, row, column, corner};
+ghost use Rattle.map_model.specs.Tiles.{has_tile, common, tile_rect, meets, tiles_of, tile_count, entry_place, in_order, members, is_poi, is_way, effective_zoom, zooms, sub_tile_bits};
 ghost use Rattle.map_model.specs.Layout.{sized};
 ghost use Rattle.map_model.specs.TileBytes.{tile_corner, tile_bytes, written_levels, poi_bytes, way_bytes};
 ghost use Rattle.map_model.specs.Listed.{entry_text, tag_key, tag_value, TagLists, Listed, shown_levels, listed};
@@ -26,6 +26,15 @@ pub fn row_between_edges()
     ensures falls { (j k : ℕ) → j ≤ k → edge_lat k ≤ℤ edge_lat j }
     ensures found { (lat : ℤ) (k : ℕ) → IsFineRow lat k → fine_row lat ≡ k }
     ensures none { (lat : ℤ) → int_le lat (edge_lat 0) ≡ false → fine_row lat ≡ 0 }
+{}
+
+/// At zoom 0 there is one tile, whose corner is in the far north-west; each place and each box is in it.
+pub fn one_tile_of_zoom_0()
+    ensures row { (lat : ℤ) → row 0 lat ≡ 0 }
+    ensures column { (lon : ℤ) → column 0 lon ≡ 0 }
+    ensures corner { corner 0 0 0 ≡ record { lat = pos 85051128; lon = negsuc 179999999 } }
+    ensures tiles { (box : Rect) → tiles_of (tile_rect box 0) ≡ (0, 0) ∷ [] }
+    ensures meets { (rect : Rect) → meets rect 0 0 0 ≡ true }
 {}
 
 /// The bytes of a tile whose members stand in order are the zoom table, the first-way offset, the POIs and the ways, and tell each member.
