@@ -42,11 +42,23 @@ tags_listed w = tag_lists (mapping w)
 abbrev pub most_pois : ℕ
 most_pois = 87381
 
+-- room for the tile of so many POIs, in bytes
+abbrev pub tile_room : ℕ
+tile_room = 13 * most_pois + 460
+
+-- room for the longest header, and the index of one tile, in bytes
+abbrev pub front_room : ℕ
+front_room = 622
+
+-- room for the report, in bytes
+abbrev pub line_room : ℕ
+line_room = 300
+
 -- Nothing is held yet, and there is room for all that a run holds.
 pub record IsEmptyRoom (room : Room) : Type 0 where
   pub input : room.block.capacity ≡ first_limit + 1
   pub no_pois : room.pois.items ≡ []
   pub many_pois : most_pois ≤ vec_capacity room.pois
-  pub no_tile : room.tile ≡ record { bytes = []; capacity = 13 * most_pois + 460 }
-  pub no_front : room.front ≡ record { bytes = []; capacity = 622 }
-  pub no_line : room.line ≡ record { bytes = []; capacity = 300 }
+  pub no_tile : room.tile ≡ record { bytes = []; capacity = tile_room }
+  pub no_front : room.front ≡ record { bytes = []; capacity = front_room }
+  pub no_line : room.line ≡ record { bytes = []; capacity = line_room }

@@ -42,19 +42,21 @@ pub record IsPrepared (told : Option FirstWords) (p : Prepared) : Type 0 where
 
 -- ---- what a run does
 
--- Of an input in the first form the map was written, all of it, and the report was said: the input's bytes that were left, those that the output and `say` took, and the faults of `say`, before and after.
-pub record IsWritten (w : FirstWords) (v : FirstValue) (left left_now taken taken_now said : Option (List ℕ)) (faults : ℕ) (said_now : Option (List ℕ)) (faults_now : ℕ) : Type 0 where
+-- All that was left of the input was read, and it is the bytes of this value of the first form.
+pub record IsRead (v : FirstValue) (left left_now : Option (List ℕ)) : Type 0 where
   pub sound : IsFirstForm v
-  pub all_read : Takes left (first_bytes v) left_now
+  pub taken : Takes left (first_bytes v) left_now
   pub nothing_left : IsAtEnd left_now
+
+-- The input was read, its map was written, all of it, and its report was said: the bytes that were left of the input, those that the output and `say` took, and the faults of `say`, before and after.
+pub record IsWritten (w : FirstWords) (v : FirstValue) (left left_now taken taken_now said : Option (List ℕ)) (faults : ℕ) (said_now : Option (List ℕ)) (faults_now : ℕ) : Type 0 where
+  pub input : IsRead v left left_now
   pub map : Gains taken (first_map w v) taken_now
   pub report : Says (report_line (first_report w v)) said faults said_now faults_now
 
--- Of an input in the first form a front of the map was written, and not all of it.
+-- The input was read, and a front of its map was written, and not all of it.
 pub record IsBegun (w : FirstWords) (v : FirstValue) (left left_now taken taken_now : Option (List ℕ)) : Type 0 where
-  pub sound : IsFirstForm v
-  pub all_read : Takes left (first_bytes v) left_now
-  pub nothing_left : IsAtEnd left_now
+  pub input : IsRead v left left_now
   pub front : GainsFront taken (first_map w v) taken_now
 
 -- The input is not of the first form: what was taken of it is too much, or is all of it and the bytes of no value.

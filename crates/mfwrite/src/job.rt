@@ -68,8 +68,17 @@ pub(crate) struct Room {
 /// An input has at most this many bytes.
 pub(crate) const INPUT_LIMIT: usize = 524_288;
 
-// The bytes of the POIs that an input of that size can have: each takes at least six of it.
+// So many POIs at most are in an input of that size: each takes at least six bytes of it.
 const MOST_POIS: usize = INPUT_LIMIT / 6;
+
+// Room for the tile of so many POIs, in bytes.
+const TILE_ROOM: usize = 13 * MOST_POIS + 460;
+
+// Room for the longest header, and the index of one tile.
+const FRONT_ROOM: usize = 622;
+
+// Room for the report.
+const LINE_ROOM: usize = 300;
 
 impl Job {
     /// A job of these words, with empty room.
@@ -118,9 +127,9 @@ impl Room {
         Ok(Room {
             block: Block::new(alloc, INPUT_LIMIT + 1)?,
             pois: Vec::with_capacity(alloc, MOST_POIS)?,
-            tile: OutBuf::new(alloc, 13 * MOST_POIS + 460)?,
-            front: OutBuf::new(alloc, 622)?,
-            line: OutBuf::new(alloc, 300)?,
+            tile: OutBuf::new(alloc, TILE_ROOM)?,
+            front: OutBuf::new(alloc, FRONT_ROOM)?,
+            line: OutBuf::new(alloc, LINE_ROOM)?,
         })
     }
 }

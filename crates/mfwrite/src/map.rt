@@ -4,10 +4,10 @@ ghost use Rattle.std.specs.Prelude.{◌≡◌, ◌≢◌, ◌≤◌, ◌<◌, �
 ghost use Rattle.mf_base.specs.Buffer.{HasRoom, AppendsTo};
 ghost use Rattle.mf_edge.specs.Device.{Takes, IsAtEnd, Gains, GainsFront, HasRisen};
 ghost use Rattle.tile_body.specs.FirstTile.{AreMembers, first_tile_bytes};
-ghost use Rattle.pbf_frame.specs.FirstForm.{FirstValue, IsFirstForm, first_bytes, first_limit, nodes_told};
-ghost use Rattle.mfwrite.specs.FirstJob.{AreFirstWords, IsEmptyRoom, most_pois};
+ghost use Rattle.pbf_frame.specs.FirstForm.{FirstValue, IsFirstForm, first_limit, nodes_told};
+ghost use Rattle.mfwrite.specs.FirstJob.{AreFirstWords, IsEmptyRoom, most_pois, front_room, tile_room};
 ghost use Rattle.mfwrite.specs.FirstMap.{first_map, first_report, front_bytes, matching, world_corner, pois as pois_told};
-ghost use Rattle.mfwrite.specs.FirstRun.{IsBegun, IsOther};
+ghost use Rattle.mfwrite.specs.FirstRun.{IsRead, IsBegun, IsOther};
 ghost use Rattle.mfwrite.specs.Shown.{report_shown, words_shown};
 
 use crate::first_words::FirstWords;
@@ -42,7 +42,7 @@ pub(crate) fn make_map<S: Source, K: Sink>(
     requires words { AreFirstWords (words_shown words.now) }
     requires room { IsEmptyRoom room.old }
 
-    ensures written { IfOk result (λ r. (v : FirstValue) × IsFirstForm v × Takes (S.left input.old) (first_bytes v) (S.left input.new) × IsAtEnd (S.left input.new) × Gains (K.taken output.old) (first_map (words_shown words.now) v) (K.taken output.new) × (report_shown r ≡ first_report (words_shown words.now) v)) }
+    ensures written { IfOk result (λ r. (v : FirstValue) × IsRead v (S.left input.old) (S.left input.new) × Gains (K.taken output.old) (first_map (words_shown words.now) v) (K.taken output.new) × (report_shown r ≡ first_report (words_shown words.now) v)) }
     ensures begun { result ≡ Err Fault.Write → (v : FirstValue) × IsBegun (words_shown words.now) v (S.left input.old) (S.left input.new) (K.taken output.old) (K.taken output.new) }
 
     ensures read { result ≡ Err Fault.Read → HasRisen (S.faults input.old) (S.faults input.new) }
@@ -93,7 +93,7 @@ struct Counts {
     shown: u64,
 }
 
-// Lists the POIs, puts the tile and puts the header and the index before it, each into its room.
+// Lists the POIs, and puts the tile, and the header and the index before it, each into its room.
 fn spell_map(
     front: &mut OutBuf,
     tile: &mut OutBuf,
@@ -103,8 +103,8 @@ fn spell_map(
 ) -> Counts
     requires words { AreFirstWords (words_shown words.now) }
     requires form { IsFirstForm input.now }
-    requires front { front.old ≡ record { bytes = []; capacity = 622 } }
-    requires tile { tile.old ≡ record { bytes = []; capacity = 13 * most_pois + 460 } }
+    requires front { front.old ≡ record { bytes = []; capacity = front_room } }
+    requires tile { tile.old ≡ record { bytes = []; capacity = tile_room } }
     requires pois { pois.old.items ≡ [] }
     requires room { most_pois ≤ vec_capacity pois.old }
     ensures map { front.new.bytes ++ tile.new.bytes ≡ first_map (words_shown words.now) input.now }
@@ -134,8 +134,8 @@ fn put_tile(
 )
     requires words { AreFirstWords (words_shown words.now) }
     requires few { length pois.now ≤ most_pois }
-    requires front { front.old ≡ record { bytes = []; capacity = 622 } }
-    requires tile { tile.old ≡ record { bytes = []; capacity = 13 * most_pois + 460 } }
+    requires front { front.old ≡ record { bytes = []; capacity = front_room } }
+    requires tile { tile.old ≡ record { bytes = []; capacity = tile_room } }
     requires members { AreMembers words.now.interval pois.now }
     ensures tile { tile.new.bytes ≡ first_tile_bytes words.now.interval world_corner pois.now }
     ensures front { front.new.bytes ≡ front_bytes (words_shown words.now) bounds.now (length tile.new.bytes) }
@@ -149,9 +149,9 @@ fn put_tile(
 fn put_front(out: &mut OutBuf, words: &FirstWords, bounds: &Rect, size: usize)
     requires words { AreFirstWords (words_shown words.now) }
     requires size { size < 2 ^ 32 }
-    requires room { HasRoom out.old 622 }
+    requires room { HasRoom out.old front_room }
     ensures appends { AppendsTo out.old out.new (front_bytes (words_shown words.now) bounds.now size) }
-    ensures most { length out.new.bytes ≤ length out.old.bytes + 622 }
+    ensures most { length out.new.bytes ≤ length out.old.bytes + front_room }
 {
     let head = FirstHead {
         date: words.date,

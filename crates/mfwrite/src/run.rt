@@ -17,7 +17,7 @@ use crate::status::{WRITTEN, fault_of, say_text};
 use mf_edge::{Sink, Source};
 use std::alloc::Global;
 
-/// Runs what was prepared and answers the status.
+/// Runs what was prepared, and answers the status.
 pub fn run<S: Source, K: Sink, E: Sink>(
     prepared: Prepared,
     input: &mut S,
@@ -35,11 +35,11 @@ pub fn run<S: Source, K: Sink, E: Sink>(
     ensures no_memory { (job : FirstWords) → prepared ≡ Ready job → result ≢ 9 }
 
     // Under a job, where no count rose, the map is written or the input is not of the first form.
-    ensures complete { (job : FirstWords) → prepared ≡ Ready job → (HasRisen (S.faults input.old) (S.faults input.new) → ⊥) → (HasRisen (K.faults output.old) (K.faults output.new) → ⊥) → (result ≡ 0) ⊎ (result ≡ 11) }
+    ensures complete { (job : FirstWords) → prepared ≡ Ready job → ¬ (HasRisen (S.faults input.old) (S.faults input.new)) → ¬ (HasRisen (K.faults output.old) (K.faults output.new)) → (result ≡ 0) ⊎ (result ≡ 11) }
 
     // Status 11 comes only where the input is not of the first form, so one that is makes success.
     ensures not_built { (job : FirstWords) → prepared ≡ Ready job → result ≡ 11 → (bytes : List ℕ) × IsOther bytes (S.left input.old) (S.left input.new) }
-    ensures accepted { (job : FirstWords) → prepared ≡ Ready job → (v : FirstValue) → IsFirstForm v → S.left input.old ≡ Some (first_bytes v) → (HasRisen (S.faults input.old) (S.faults input.new) → ⊥) → (HasRisen (K.faults output.old) (K.faults output.new) → ⊥) → result ≡ 0 }
+    ensures accepted { (job : FirstWords) → prepared ≡ Ready job → (v : FirstValue) → IsFirstForm v → S.left input.old ≡ Some (first_bytes v) → ¬ (HasRisen (S.faults input.old) (S.faults input.new)) → ¬ (HasRisen (K.faults output.old) (K.faults output.new)) → result ≡ 0 }
 
     // Nothing is written but under success and under a fault of the output, and then what is written is a front of the map.
     ensures untouched { result ≢ 0 → result ≢ 7 → output.new ≡ output.old }
@@ -104,11 +104,11 @@ pub fn program<S: Source, K: Sink, E: Sink>(
     ensures memory { result ≡ 9 → (input.new ≡ input.old) × (output.new ≡ output.old) }
 
     // Where they tell a job and no count rose, the map is written, or memory is wanting, or the input is not of the first form.
-    ensures complete { (job : FirstWords) → words_told (map string_bytes words.now) ≡ Some job → (HasRisen (S.faults input.old) (S.faults input.new) → ⊥) → (HasRisen (K.faults output.old) (K.faults output.new) → ⊥) → (result ≡ 0) ⊎ ((result ≡ 9) ⊎ (result ≡ 11)) }
+    ensures complete { (job : FirstWords) → words_told (map string_bytes words.now) ≡ Some job → ¬ (HasRisen (S.faults input.old) (S.faults input.new)) → ¬ (HasRisen (K.faults output.old) (K.faults output.new)) → (result ≡ 0) ⊎ ((result ≡ 9) ⊎ (result ≡ 11)) }
 
     // Status 11 comes only where the words tell no job or the input is not of the first form.
     ensures not_built { result ≡ 11 → (words_told (map string_bytes words.now) ≡ None) ⊎ ((bytes : List ℕ) × IsOther bytes (S.left input.old) (S.left input.new)) }
-    ensures accepted { (job : FirstWords) → words_told (map string_bytes words.now) ≡ Some job → (v : FirstValue) → IsFirstForm v → S.left input.old ≡ Some (first_bytes v) → (HasRisen (S.faults input.old) (S.faults input.new) → ⊥) → (HasRisen (K.faults output.old) (K.faults output.new) → ⊥) → (result ≡ 0) ⊎ (result ≡ 9) }
+    ensures accepted { (job : FirstWords) → words_told (map string_bytes words.now) ≡ Some job → (v : FirstValue) → IsFirstForm v → S.left input.old ≡ Some (first_bytes v) → ¬ (HasRisen (S.faults input.old) (S.faults input.new)) → ¬ (HasRisen (K.faults output.old) (K.faults output.new)) → (result ≡ 0) ⊎ (result ≡ 9) }
 
     // Nothing is written but under success and under a fault of the output, and then what is written is a front of the map.
     ensures untouched { result ≢ 0 → result ≢ 7 → output.new ≡ output.old }

@@ -10,9 +10,11 @@ returns-in-Ok-clause-written g c =
     let w = words_shown c.args.words.now in
     let map = (λ i. c.bytes-2.ensures.bytes i ++ c.bytes-3.ensures.bytes i) ∙ c.spell_map-counts.ensures.map in (
       v,
-      c.in-Some.ensures.found.0,
-      subst (λ b. Takes (g.S.Source.left c.args.input.now) b (g.S.Source.left c.read_input.new.input)) (sym c.bytes.ensures ∙ c.in-Some.ensures.found.1) c.in_ok-read_input.ensures.whole.0,
-      c.in_ok-read_input.ensures.whole.1,
+      record {
+        sound = c.in-Some.ensures.found.0;
+        taken = subst (λ b. Takes (g.S.Source.left c.args.input.now) b (g.S.Source.left c.read_input.new.input)) (sym c.bytes.ensures ∙ c.in-Some.ensures.found.1) c.in_ok-read_input.ensures.whole.0;
+        nothing_left = c.in_ok-read_input.ensures.whole.1;
+      },
       subst (λ b. Gains (g.K.Sink.taken c.args.output.now) b (g.K.Sink.taken c.write_map.new.output)) map c.in-Ok.ensures.all,
       report-made w v _ _ _ _ _ _ c.requires.words c.spell_map-counts.ensures.nodes c.spell_map-counts.ensures.features c.spell_map-counts.ensures.shown c.in-Ok.ensures.size map c.report_of.ensures,
     )
@@ -23,9 +25,11 @@ returns-in-Err-clause-begun g c = λ is.
     let map = (λ i. c.bytes-2.ensures.bytes i ++ c.bytes-3.ensures.bytes i) ∙ c.spell_map-counts.ensures.map in (
       v,
       record {
-        sound = c.in-Some.ensures.found.0;
-        all_read = subst (λ b. Takes (g.S.Source.left c.args.input.now) b (g.S.Source.left c.read_input.new.input)) (sym c.bytes.ensures ∙ c.in-Some.ensures.found.1) c.in_ok-read_input.ensures.whole.0;
-        nothing_left = c.in_ok-read_input.ensures.whole.1;
+        input = record {
+          sound = c.in-Some.ensures.found.0;
+          taken = subst (λ b. Takes (g.S.Source.left c.args.input.now) b (g.S.Source.left c.read_input.new.input)) (sym c.bytes.ensures ∙ c.in-Some.ensures.found.1) c.in_ok-read_input.ensures.whole.0;
+          nothing_left = c.in_ok-read_input.ensures.whole.1;
+        };
         front = subst (λ b. GainsFront (g.K.Sink.taken c.args.output.now) b (g.K.Sink.taken c.write_map.new.output)) map c.in-Err.ensures.front;
       },
     )
