@@ -1,26 +1,23 @@
 -- A HeaderBlock of the first form has the box of its sides, and no fault.
-use Rattle.std.proofs.Common.{◌≡◌, ℕ, ◌<◌, ◌≤◌, ◌^◌, List, [], ◌∷◌, ◌++◌, length, refl, arith, true, Ok, Some}
+use Rattle.std.proofs.Common.{◌≡◌, ◌<◌, ◌≤◌, ◌^◌, List, [], ◌∷◌, ◌++◌, length, refl, arith, Ok, Some}
 use Rattle.std.specs.Prelude.{codes, ℤ, pos, negsuc, nat_abs}
-use Rattle.std.proofs.lemmas.Bool.{and_parts, leb-true}
 use Rattle.mf_base.specs.declared.place.Rect.{Rect}
 use Rattle.mf_base.specs.Spelling.{zigzag_of}
 use Rattle.mf_base.proofs.NumberLemmas.{zigzag-there}
 use Rattle.osm_model.specs.Wire.{Field}
 use Rattle.osm_model.specs.Tables.{FitsTable, fields_fault, message, header_bbox, header_block as header_table}
-use Rattle.osm_model.specs.Blocks.{is_within, latitude_limit, longitude_limit, micro, box_in, header_box}
+use Rattle.osm_model.specs.Blocks.{micro, box_in, header_box}
 use Rattle.osm_model.proofs.TableLaws.{none_fits}
 use Rattle.osm_model.proofs.TableMessageLaws.{message_is}
 use Rattle.pbf_frame.specs.declared.stored.Sides.{Sides}
 use Rattle.pbf_frame.specs.FirstForm.{AreSides, first_limit, signed_field, bytes_field, bbox, header_block}
+use Rattle.pbf_frame.proofs.HeaderOnly.{sides-small}
 use Rattle.pbf_frame.proofs.FirstFields.{number_at, bytes_at, spells-number, spells-bytes, one-field, message-with, field-longer, front-shorter}
 
 -- a sint64 of a magnitude below 2^63 is told by a number below 2^64
 pub zigzag-fits : (z : ℤ) → nat_abs z < 2 ^ 63 → zigzag_of z < 2 ^ 64
 zigzag-fits (pos m) small = omega (arith, small)
 zigzag-fits (negsuc m) small = omega (arith, small)
-
-near-fits : (limit : ℕ) (z : ℤ) → limit < 2 ^ 63 → is_within limit z ≡ true → zigzag_of z < 2 ^ 64
-near-fits limit z small near = let le = leb-true (nat_abs z) limit near in zigzag-fits z (omega (arith, le, small))
 
 -- ---- the bbox
 
@@ -32,18 +29,12 @@ record SidesTold (s : Sides) : Type 0 where
   bottom : zigzag_of s.bottom < 2 ^ 64
 
 sides-told : (s : Sides) → AreSides s → SidesTold s
-sides-told s are =
-    let first_five = (and_parts _ _ are).0 in
-    let on_earth = (and_parts _ _ first_five).0 in
-    let (first_three, bottom) = and_parts _ _ on_earth in
-    let (first_two, top) = and_parts _ _ first_three in
-    let (left, right) = and_parts _ _ first_two in
-    record {
-      left = near-fits longitude_limit s.left (omega arith) left;
-      right = near-fits longitude_limit s.right (omega arith) right;
-      top = near-fits latitude_limit s.top (omega arith) top;
-      bottom = near-fits latitude_limit s.bottom (omega arith) bottom;
-    }
+sides-told s are = let small = sides-small s are in record {
+  left = zigzag-fits s.left small.left;
+  right = zigzag-fits s.right small.right;
+  top = zigzag-fits s.top small.top;
+  bottom = zigzag-fits s.bottom small.bottom;
+}
 
 -- the fields of a bbox
 abbrev sides_at : Sides → List Field

@@ -28,6 +28,30 @@ block-parts raw s e = e ∙ append_assoc (bytes_field 1 (bbox s)) (bytes_field 4
 
 -- ---- the bbox
 
+-- Each side has a magnitude below 2^63.
+pub record AreSmall (s : Sides) : Type 0 where
+  pub left : nat_abs s.left < 2 ^ 63
+  pub right : nat_abs s.right < 2 ^ 63
+  pub top : nat_abs s.top < 2 ^ 63
+  pub bottom : nat_abs s.bottom < 2 ^ 63
+
+near-small : (limit : ℕ) (z : ℤ) → limit < 2 ^ 63 → is_within limit z ≡ true → nat_abs z < 2 ^ 63
+near-small limit z small near = let le = leb-true (nat_abs z) limit near in omega (arith, le, small)
+
+pub sides-small : (s : Sides) → AreSides s → AreSmall s
+sides-small s are =
+    let first_five = (and_parts _ _ are).0 in
+    let on_earth = (and_parts _ _ first_five).0 in
+    let (first_three, bottom) = and_parts _ _ on_earth in
+    let (first_two, top) = and_parts _ _ first_three in
+    let (left, right) = and_parts _ _ first_two in
+    record {
+      left = near-small longitude_limit s.left (omega arith) left;
+      right = near-small longitude_limit s.right (omega arith) right;
+      top = near-small latitude_limit s.top (omega arith) top;
+      bottom = near-small latitude_limit s.bottom (omega arith) bottom;
+    }
+
 -- Each side fits a signed number.
 pub record SidesFit (s : Sides) : Type 0 where
   pub left : FitsSigned w64 s.left
@@ -35,22 +59,13 @@ pub record SidesFit (s : Sides) : Type 0 where
   pub top : FitsSigned w64 s.top
   pub bottom : FitsSigned w64 s.bottom
 
-near-fits : (limit : ℕ) (z : ℤ) → limit < 2 ^ 63 → is_within limit z ≡ true → FitsSigned w64 z
-near-fits limit z small near = let le = leb-true (nat_abs z) limit near in fits_signed_from_abs w64 z (omega (arith, le, small))
-
 pub sides-fit : (s : Sides) → AreSides s → SidesFit s
-sides-fit s are =
-    let first_five = (and_parts _ _ are).0 in
-    let on_earth = (and_parts _ _ first_five).0 in
-    let (first_three, bottom) = and_parts _ _ on_earth in
-    let (first_two, top) = and_parts _ _ first_three in
-    let (left, right) = and_parts _ _ first_two in
-    record {
-      left = near-fits longitude_limit s.left (omega arith) left;
-      right = near-fits longitude_limit s.right (omega arith) right;
-      top = near-fits latitude_limit s.top (omega arith) top;
-      bottom = near-fits latitude_limit s.bottom (omega arith) bottom;
-    }
+sides-fit s are = let small = sides-small s are in record {
+  left = fits_signed_from_abs w64 s.left small.left;
+  right = fits_signed_from_abs w64 s.right small.right;
+  top = fits_signed_from_abs w64 s.top small.top;
+  bottom = fits_signed_from_abs w64 s.bottom small.bottom;
+}
 
 -- what stands behind each side of a bbox but the last
 abbrev pub behind_top : Sides → List ℕ
