@@ -24,6 +24,9 @@ pub fn run<S: Source, K: Sink, E: Sink>(
     output: &mut K,
     say: &mut E,
 ) -> u8
+    // There is no other status.
+    ensures statuses { (result ≡ 0) ⊎ ((result ≡ 6) ⊎ ((result ≡ 7) ⊎ ((result ≡ 9) ⊎ (result ≡ 11)))) }
+
     // Success comes only with the defined map taken and its report said.
     ensures written { (job : FirstWords) → prepared ≡ Ready job → result ≡ 0 → (v : FirstValue) × IsWritten job v (S.left input.old) (S.left input.new) (K.taken output.old) (K.taken output.new) (E.taken say.old) (E.faults say.old) (E.taken say.new) (E.faults say.new) }
 
@@ -92,6 +95,9 @@ pub fn program<S: Source, K: Sink, E: Sink>(
 ) -> u8
     // It is `prepare`, and then `run` with its answer.
     ensures as_run { (p : Prepared) × IsPrepared (words_told (map string_bytes words.now)) p × ((r : Refusal) → p ≡ Refused r → result ≡ refusal_status r) × ((job : FirstWords) → p ≡ Ready job → result ≢ 9) }
+
+    // There is no other status.
+    ensures statuses { (result ≡ 0) ⊎ ((result ≡ 6) ⊎ ((result ≡ 7) ⊎ ((result ≡ 9) ⊎ (result ≡ 11)))) }
 
     // Success comes only where the words tell a job, with its map of the input taken and its report said.
     ensures written { result ≡ 0 → (job : FirstWords) × (words_told (map string_bytes words.now) ≡ Some job) × (v : FirstValue) × IsWritten job v (S.left input.old) (S.left input.new) (K.taken output.old) (K.taken output.new) (E.taken say.old) (E.faults say.old) (E.taken say.new) (E.faults say.new) }
