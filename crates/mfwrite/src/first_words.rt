@@ -140,7 +140,7 @@ fn number_up_to(text: &str, greatest: u64) -> Option<u64>
 #[cfg(test)]
 mod tests {
     use super::*;
-    use std::alloc::{AllocError, Global};
+    use crate::tests::owned;
     use std::test::Fail;
 
     // Three words that are refused, each for one of them.
@@ -180,14 +180,6 @@ mod tests {
         ["--poi=a=x@5", "--intervals=0:0:7", "--date=-1"],
         ["--poi=a=x@5", "--intervals=0:0:7", "--date"],
     ];
-
-    fn owned(alloc: Global, words: &[&str]) -> Result<Vec<String>, AllocError> {
-        let mut all = Vec::new(alloc);
-        for word in words {
-            all.push(String::from_str(alloc, word)?)?;
-        }
-        Ok(all)
-    }
 
     #[test]
     fn accepted(rt: HostRuntime) -> Result<(), Fail> {

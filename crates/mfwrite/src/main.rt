@@ -19,7 +19,7 @@ mod status;
 mod tests;
 
 use mf_edge::{ReadSource, WriteSink};
-use prepare::{Prepared, Refusal, prepare};
+use prepare::{Prepared, Refusal};
 use run::{program, run};
 use std::env;
 use std::io::ErrorKind;

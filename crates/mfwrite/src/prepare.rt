@@ -40,22 +40,17 @@ pub fn prepare(alloc: Global, words: &[String]) -> Prepared
 #[cfg(test)]
 mod tests {
     use super::*;
-    use std::alloc::AllocError;
+    use crate::tests::owned;
     use std::test::Fail;
-
-    fn prepared(alloc: Global, date: &str) -> Result<Prepared, AllocError> {
-        let mut words = Vec::new(alloc);
-        for word in ["--poi=amenity=bench@5", "--intervals=0:0:7", date] {
-            words.push(String::from_str(alloc, word)?)?;
-        }
-        Ok(prepare(alloc, &words))
-    }
 
     #[test]
     fn a_job_or_a_refusal(rt: HostRuntime) -> Result<(), Fail> {
-        let job = prepared(rt.alloc(), "--date=1700000000000")?;
-        assert!(rt; matches!(job, Prepared::Ready(_)));
-        let none = prepared(rt.alloc(), "--date=")?;
+        let words = owned(
+            rt.alloc(),
+            &["--poi=amenity=bench@5", "--intervals=0:0:7", "--date=0"],
+        )?;
+        assert!(rt; matches!(prepare(rt.alloc(), &words), Prepared::Ready(_)));
+        let none = prepare(rt.alloc(), &[]);
         assert!(rt; matches!(none, Prepared::Refused(Refusal::NotBuilt)));
         Ok(())
     }
