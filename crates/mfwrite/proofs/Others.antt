@@ -1,6 +1,6 @@
 -- Inputs that are not of the first form.
 use Rattle.std.proofs.Common.{◌≡◌, ◌≢◌, ◌⊎◌, inl, inr, ◌<◌, ℕ, List, length, Option, Some, None, arith, ap, sym, ◌∙◌, append-nil, length-append}
-use Rattle.mf_edge.specs.Device.{Takes, IsAtEnd}
+use Rattle.mf_edge.specs.Device.{Takes, HasNone}
 use Rattle.pbf_frame.specs.FirstForm.{FirstValue, IsFirstForm, first_bytes, first_limit}
 use Rattle.mfwrite.specs.FirstRun.{IsOther}
 
@@ -8,7 +8,7 @@ use Rattle.mfwrite.specs.FirstRun.{IsOther}
 pub not-other : (v : FirstValue) → IsFirstForm v → (bytes : List ℕ) (left left_now : Option (List ℕ)) → left ≡ Some (first_bytes v) → IsOther bytes left left_now → ⊥
 not-other v form bytes left left_now told other = no left_now (rw told at other.taken) other.other
   where
-    no : (now : Option (List ℕ)) → Takes (Some (first_bytes v)) bytes now → (first_limit < length bytes) ⊎ (IsAtEnd now × ((w : FirstValue) → IsFirstForm w → bytes ≢ first_bytes w)) → ⊥
+    no : (now : Option (List ℕ)) → Takes (Some (first_bytes v)) bytes now → (first_limit < length bytes) ⊎ (HasNone now × ((w : FirstValue) → IsFirstForm w → bytes ≢ first_bytes w)) → ⊥
     no None taken why = taken
     no (Some rest) taken (inl long) = omega (arith, long, ap length taken, length-append bytes rest, form.short)
     no (Some rest) taken (inr why) = why.1 v form (sym (taken ∙ (rw why.0 (append-nil bytes))))

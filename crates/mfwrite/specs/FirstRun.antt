@@ -1,7 +1,7 @@
 -- What a run says, and what it does to its devices: this project's profile.
 use Rattle.std.specs.Prelude.{◌≡◌, ◌≢◌, ◌↔◌, ◌⊎◌, ◌<◌, ◌==◌, ℕ, if◌then◌else◌, List, [], ◌∷◌, ◌++◌, length, codes, Option, Some, None}
 use Rattle.map_model.specs.MapFile.{report_line}
-use Rattle.mf_edge.specs.Device.{Takes, IsAtEnd, Gains, GainsFront, HasRisen}
+use Rattle.mf_edge.specs.Device.{Takes, HasNone, Gains, GainsFront, HasRisen}
 use Rattle.pbf_frame.specs.FirstForm.{FirstValue, IsFirstForm, first_bytes, first_limit}
 use Rattle.mfwrite.specs.FirstWords.{FirstWords}
 use Rattle.mfwrite.specs.declared.prepare.Prepared.{Prepared}
@@ -46,7 +46,7 @@ pub record IsPrepared (told : Option FirstWords) (p : Prepared) : Type 0 where
 pub record IsRead (v : FirstValue) (left left_now : Option (List ℕ)) : Type 0 where
   pub sound : IsFirstForm v
   pub taken : Takes left (first_bytes v) left_now
-  pub nothing_left : IsAtEnd left_now
+  pub nothing_left : HasNone left_now
 
 -- The input was read, its map was written, all of it, and its report was said: the bytes that were left of the input, those that the output and `say` took, and the faults of `say`, before and after.
 pub record IsWritten (w : FirstWords) (v : FirstValue) (left left_now taken taken_now said : Option (List ℕ)) (faults : ℕ) (said_now : Option (List ℕ)) (faults_now : ℕ) : Type 0 where
@@ -62,4 +62,4 @@ pub record IsBegun (w : FirstWords) (v : FirstValue) (left left_now taken taken_
 -- The input is not of the first form: what was taken of it is too much, or is all of it and the bytes of no value.
 pub record IsOther (bytes : List ℕ) (left left_now : Option (List ℕ)) : Type 0 where
   pub taken : Takes left bytes left_now
-  pub other : (first_limit < length bytes) ⊎ (IsAtEnd left_now × ((v : FirstValue) → IsFirstForm v → bytes ≢ first_bytes v))
+  pub other : (first_limit < length bytes) ⊎ (HasNone left_now × ((v : FirstValue) → IsFirstForm v → bytes ≢ first_bytes v))

@@ -2,7 +2,7 @@
 
 ghost use Rattle.std.specs.Prelude.{◌≡◌, ◌≢◌, ◌≤◌, ◌<◌, ◌^◌, ◌+◌, ◌*◌, ◌++◌, [], ◌∷◌, ℕ, List, length, min, max, vec_capacity, IfOk, OnOk, OnErr, Err};
 ghost use Rattle.mf_base.specs.Buffer.{HasRoom, AppendsTo};
-ghost use Rattle.mf_edge.specs.Device.{Takes, IsAtEnd, Gains, GainsFront, HasRisen};
+ghost use Rattle.mf_edge.specs.Device.{Takes, IsAtEnd, Gains, GainsFront, CountsOne, HasRisen};
 ghost use Rattle.tile_body.specs.FirstTile.{AreMembers, first_tile_bytes};
 ghost use Rattle.pbf_frame.specs.FirstForm.{FirstValue, IsFirstForm, first_limit, nodes_told};
 ghost use Rattle.mfwrite.specs.FirstJob.{AreFirstWords, IsEmptyRoom, most_pois, front_room, tile_room};
@@ -33,6 +33,7 @@ const WORLD_CORNER: Place = Place {
 const POI_WEIGHT: u64 = 11;
 
 /// Makes the map of an input, and tells what it has.
+#[tactic(auto, using(mf_edge::proofs::Counting::counting))]
 pub(crate) fn make_map<S: Source, K: Sink>(
     words: &FirstWords,
     room: &mut Room,
@@ -42,12 +43,12 @@ pub(crate) fn make_map<S: Source, K: Sink>(
     requires words { AreFirstWords (words_shown words.now) }
     requires room { IsEmptyRoom room.old }
 
-    ensures written { IfOk result (λ r. (v : FirstValue) × IsRead v (S.left input.old) (S.left input.new) × Gains (K.taken output.old) (first_map (words_shown words.now) v) (K.taken output.new) × (report_shown r ≡ first_report (words_shown words.now) v)) }
-    ensures begun { result ≡ Err Fault.Write → (v : FirstValue) × IsBegun (words_shown words.now) v (S.left input.old) (S.left input.new) (K.taken output.old) (K.taken output.new) }
+    ensures written { IfOk result (λ r. (v : FirstValue) × IsRead v (S.state input.old).left (S.state input.new).left × Gains (K.state output.old).taken (first_map (words_shown words.now) v) (K.state output.new).taken × (report_shown r ≡ first_report (words_shown words.now) v)) }
+    ensures begun { result ≡ Err Fault.Write → (v : FirstValue) × IsBegun (words_shown words.now) v (S.state input.old).left (S.state input.new).left (K.state output.old).taken (K.state output.new).taken }
 
-    ensures read { result ≡ Err Fault.Read → HasRisen (S.faults input.old) (S.faults input.new) }
-    ensures write { result ≡ Err Fault.Write → HasRisen (K.faults output.old) (K.faults output.new) }
-    ensures other { result ≡ Err Fault.NotBuilt → (bytes : List ℕ) × IsOther bytes (S.left input.old) (S.left input.new) }
+    ensures read { result ≡ Err Fault.Read → HasRisen (S.state input.old).faults (S.state input.new).faults }
+    ensures write { result ≡ Err Fault.Write → HasRisen (K.state output.old).faults (K.state output.new).faults }
+    ensures other { result ≡ Err Fault.NotBuilt → (bytes : List ℕ) × IsOther bytes (S.state input.old).left (S.state input.new).left }
     ensures never { result ≢ Err Fault.Memory }
 
     ensures untouched { OnErr result ((result ≢ Err Fault.Write) → output.new ≡ output.old) }
@@ -73,9 +74,9 @@ pub(crate) fn make_map<S: Source, K: Sink>(
 // Reads all of an input that is not too long.
 fn read_input<S: Source>(block: &mut Block, input: &mut S) -> Result<(), Fault>
     requires { block.old.capacity ≡ first_limit + 1 }
-    ensures whole { OnOk result (Takes (S.left input.old) block.new.bytes (S.left input.new) × IsAtEnd (S.left input.new)) }
-    ensures long { result ≡ Err Fault.NotBuilt → Takes (S.left input.old) block.new.bytes (S.left input.new) × (first_limit < length block.new.bytes) }
-    ensures read { result ≡ Err Fault.Read → HasRisen (S.faults input.old) (S.faults input.new) }
+    ensures whole { OnOk result (Takes (S.state input.old).left block.new.bytes (S.state input.new).left × IsAtEnd (S.state input.new)) }
+    ensures long { result ≡ Err Fault.NotBuilt → Takes (S.state input.old).left block.new.bytes (S.state input.new).left × (first_limit < length block.new.bytes) }
+    ensures read { result ≡ Err Fault.Read → CountsOne (S.state input.old).faults (S.state input.new).faults }
     ensures never { (result ≢ Err Fault.Write) × (result ≢ Err Fault.Memory) }
 {
     match Stream::new(input).fill(block, INPUT_LIMIT + 1) {
@@ -167,10 +168,10 @@ fn put_front(out: &mut OutBuf, words: &FirstWords, bounds: &Rect, size: usize)
 #[tactic(auto, using(mf_edge::proofs::Putting::putting))]
 fn write_map<K: Sink>(output: &mut K, front: &[u8], tile: &[u8]) -> Result<u64, Failed>
     requires few { length front.now + length tile.now < 2 ^ 63 }
-    ensures all { OnOk result (Gains (K.taken output.old) (front.now ++ tile.now) (K.taken output.new)) }
+    ensures all { OnOk result (Gains (K.state output.old).taken (front.now ++ tile.now) (K.state output.new).taken) }
     ensures size { IfOk result (λ n. n ≡ length (front.now ++ tile.now)) }
-    ensures failed { OnErr result (HasRisen (K.faults output.old) (K.faults output.new)) }
-    ensures front { OnErr result (GainsFront (K.taken output.old) (front.now ++ tile.now) (K.taken output.new)) }
+    ensures failed { OnErr result (CountsOne (K.state output.old).faults (K.state output.new).faults) }
+    ensures front { OnErr result (GainsFront (K.state output.old).taken (front.now ++ tile.now) (K.state output.new).taken) }
 {
     put_all(output, front)?;
     put_all(output, tile)?;

@@ -61,8 +61,9 @@ pub(crate) fn fault_of(refusal: Refusal) -> Fault
 }
 
 /// Says a text. A failure changes nothing else.
+#[tactic(auto, using(mf_edge::proofs::Counting::counting))]
 pub(crate) fn say_text<E: Sink>(say: &mut E, text: &[u8])
-    ensures { Says text.now (E.taken say.old) (E.faults say.old) (E.taken say.new) (E.faults say.new) }
+    ensures { Says text.now (E.state say.old).taken (E.state say.old).faults (E.state say.new).taken (E.state say.new).faults }
 {
     let _ = put_all(say, text);
 }

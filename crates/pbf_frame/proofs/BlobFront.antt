@@ -8,7 +8,7 @@ use Rattle.mf_base.specs.Spelling.{big_endian}
 use Rattle.mf_base.specs.Steps.{◌>>=◌, require, told_as}
 use Rattle.mf_base.proofs.StepLaws.{bind_ok, ok_is, require_ok, told_ok, ok_or_ok}
 use Rattle.mf_base.proofs.BigBytes.{big_bytes-big_number}
-use Rattle.mf_edge.specs.Device.{IsAtEnd}
+use Rattle.mf_edge.specs.Device.{HasNone}
 use Rattle.osm_model.specs.Tables.{message, blob_header, once_of, number_of}
 use Rattle.osm_model.specs.Frames.{Content, header, primitive, unread, type_of, FrameFault, too_long, truncated, header_length, header_wire, no_type, no_size, blob_size, header_limit, blob_limit, offset_limit, IsBlobHeader, HoldsContent, SpellsFrame, whole_part, raw_bytes, content_in, frame_front}
 use Rattle.osm_model.proofs.TableMessageLaws.{message_found}
@@ -93,7 +93,7 @@ pub begins-too_long : (at first : ℕ) (left : Option (List ℕ)) → offset_lim
 unfolding frame_front
 begins-too_long at first left far = (none_of_some 0 (first ∷ []) (omega arith), inl (λ more. rw (le-ltb at offset_limit far) refl))
 
-pub begins-length_cut : (at first : ℕ) (rest : List ℕ) (left : Option (List ℕ)) → at < offset_limit → length rest < 3 → IsAtEnd left → BeginsNoBlob at (truncated (1 + length rest)) left (first ∷ rest)
+pub begins-length_cut : (at first : ℕ) (rest : List ℕ) (left : Option (List ℕ)) → at < offset_limit → length rest < 3 → HasNone left → BeginsNoBlob at (truncated (1 + length rest)) left (first ∷ rest)
 unfolding frame_front
 begins-length_cut at first rest left near short end =
     (none_of_some 0 (first ∷ rest) (omega arith), inr (rw (lt-ltb at offset_limit near) (rw (part-cut (first ∷ rest) 4 (omega (arith, short))) (ap (λ n. Err (truncated n)) (omega arith))), end))

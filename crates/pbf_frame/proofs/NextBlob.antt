@@ -2,7 +2,7 @@
 use Rattle.std.proofs.Common.{◌≡◌, ◌∙◌, ℕ, ◌+◌, ◌<◌, List, [], ◌∷◌, ◌++◌, length, refl, sym, ap, subst, arith, true, Option, Some, Result, Ok, Err, append_assoc, append-nil, length-append}
 use Rattle.std.specs.Prelude.{slice_range}
 use Rattle.std.proofs.lemmas.List.Elements.{filter-append}
-use Rattle.mf_edge.specs.Device.{IsAtEnd}
+use Rattle.mf_edge.specs.Device.{HasNone}
 use Rattle.osm_model.specs.Frames.{unread, Frame, FrameFault, offset_limit, AreFrames, SpellsFrame, is_known, PassesOver, LeadsTo}
 use Rattle.pbf_frame.specs.declared.frame_fault.NextFault.{NextFault}
 use Rattle.pbf_frame.specs.declared.frame_fault.NextFault.TheVariants as next_fault
@@ -47,7 +47,7 @@ leads-to at m block left f x y h place (near, placed, spelled) = record {
   spelled = frames_join at h.passed (frame_shown block f ∷ []) x y h.spelled (subst (λ n. AreFrames n y (frame_shown block f ∷ [])) place (one_frame (frame_shown block f) m y placed near spelled));
 }
 
-pub passes-end : (at m : ℕ) (block : List ℕ) (left : Option (List ℕ)) (x y : List ℕ) → PassesOver at x → SpellsStep m block left End y → PassesOver at (x ++ y) × IsAtEnd left
+pub passes-end : (at m : ℕ) (block : List ℕ) (left : Option (List ℕ)) (x y : List ℕ) → PassesOver at x → SpellsStep m block left End y → PassesOver at (x ++ y) × HasNone left
 passes-end at m block left x y h (none, end) = (subst (PassesOver at) (sym (append-nil x) ∙ ap (λ b. x ++ b) (sym none)) h, end)
 
 -- what was taken is as much as the offset rose

@@ -3,7 +3,7 @@ use Rattle.std.proofs.Common.{◌≡◌, ◌≢◌, ◌∙◌, ℕ, ◌+◌, Lis
 use Rattle.std.proofs.lemmas.List.Elements.{filter-append}
 use Rattle.std.proofs.lemmas.Option.{none-some}
 use Rattle.mf_base.proofs.StepLaws.{ok_is, err_is_no_ok}
-use Rattle.mf_edge.specs.Device.{Takes, IsAtEnd}
+use Rattle.mf_edge.specs.Device.{Takes, HasNone}
 use Rattle.osm_model.specs.Reading.{Reading, stops_at, then_reads}
 use Rattle.osm_model.specs.Frames.{Frame, FrameFault, FrameFaultAt, AreFrames, is_known, known_frames, PassesOver, frames_at, next_known}
 use Rattle.osm_model.proofs.FrameListLaws.{frames-nil, frames-stop, frames-append}
@@ -23,7 +23,7 @@ left_told all bytes (Some rest) taken = (rest, refl, taken)
 taken_is : (before now : Option (List ℕ)) (all rest bytes : List ℕ) → before ≡ Some all → now ≡ Some rest → Takes before bytes now → all ≡ bytes ++ rest
 taken_is before now all rest bytes e f taken = rw (e, f) at taken
 
-at_end : (now : Option (List ℕ)) (rest : List ℕ) → now ≡ Some rest → IsAtEnd now → rest ≡ []
+at_end : (now : Option (List ℕ)) (rest : List ℕ) → now ≡ Some rest → HasNone now → rest ≡ []
 at_end now rest e end = rw e at end
 
 -- bytes that begin with no blob

@@ -2,7 +2,7 @@
 use Rattle.std.specs.Prelude.{◌≡◌, ◌⊎◌, ℕ, ◌+◌, ◌<◌, ◌≤◌, List, [], ◌∷◌, length, slice_range, Option, Some, None, Result, Ok, Err, IsSome, ⊤}
 use Rattle.byteorder.specs.Endian.{big_number}
 use Rattle.mf_base.specs.Spelling.{IsBytes}
-use Rattle.mf_edge.specs.Device.{IsAtEnd}
+use Rattle.mf_edge.specs.Device.{HasNone}
 use Rattle.osm_model.specs.Frames.{unread, header_limit, offset_limit, SpellsFrame, raw_bytes}
 use Rattle.pbf_frame.specs.declared.frame_fault.FrameFault.{FrameFault}
 use Rattle.pbf_frame.specs.declared.frame_fault.FrameFault.TheVariants.{Truncated}
@@ -27,12 +27,12 @@ Tells Holds Fails blob before at (Err fault) now to = FailsAt Fails blob before 
 
 -- The input ended before there were so many bytes; some that were read before count in the fault.
 abbrev pub IsCut : ℕ → ℕ → Option (List ℕ) → FrameFault → List ℕ → Type 0
-IsCut had size left fault bytes = (fault ≡ Truncated (had + length bytes)) × (length bytes < size) × IsAtEnd left
+IsCut had size left fault bytes = (fault ≡ Truncated (had + length bytes)) × (length bytes < size) × HasNone left
 
 -- The byte was taken, or there was none.
 abbrev pub IsFirst : Option (List ℕ) → Option ℕ → List ℕ → Type 0
 IsFirst left (Some first) bytes = bytes ≡ first ∷ []
-IsFirst left None bytes = (bytes ≡ []) × IsAtEnd left
+IsFirst left None bytes = (bytes ≡ []) × HasNone left
 
 -- The four bytes at a blob's offset tell how many bytes its BlobHeader has.
 pub record HasLength (at size : ℕ) (four : List ℕ) : Type 0 where
@@ -64,6 +64,6 @@ BlobFails head left fault bytes = IsCut 0 head.size left fault bytes ⊎ ((lengt
 
 -- What the bytes at a blob's offset spell: nothing at the end of the input, a blob that was passed over, or one whose raw bytes are in the block.
 abbrev pub SpellsStep : ℕ → List ℕ → Option (List ℕ) → Step → List ℕ → Type 0
-SpellsStep at block left End bytes = (bytes ≡ []) × IsAtEnd left
+SpellsStep at block left End bytes = (bytes ≡ []) × HasNone left
 SpellsStep at block left Passed bytes = (at < offset_limit) × (kind : List ℕ) × SpellsFrame (unread kind) bytes
 SpellsStep at block left (Kept f) bytes = (at < offset_limit) × (f.at ≡ at) × SpellsFrame (content_shown f.kind (slice_range block f.start f.end)) bytes

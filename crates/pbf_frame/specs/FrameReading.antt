@@ -1,6 +1,6 @@
 -- What the reader of blobs tells of the bytes that it took from a source. This project's own.
 use Rattle.std.specs.Prelude.{◌≡◌, ◌≢◌, ◌⊎◌, ℕ, ◌+◌, List, [], ◌++◌, length, slice_range, Option, Some, None, option_map, Result, Ok, Err, ⊤}
-use Rattle.mf_edge.specs.Device.{Takes, IsAtEnd}
+use Rattle.mf_edge.specs.Device.{Takes, HasNone}
 use Rattle.osm_model.specs.Reading.{Reading, all_read, stops_at, then_reads}
 use Rattle.osm_model.specs.Frames as model
 use Rattle.osm_model.specs.Frames.{Content, header, primitive, unread, header_limit, offset_limit, SpellsFrame, FrameFaultAt, raw_bytes, frame_front, frames_at, known_frames, PassesOver, LeadsTo}
@@ -22,7 +22,7 @@ pub record Took (before : Option (List ℕ)) (at : ℕ) (Holds : List ℕ → Ty
 
 -- The bytes at this offset, of which there are some, begin with no blob for this fault, whatever follows them, or because the input ends behind them.
 abbrev pub BeginsNoBlob : ℕ → model.FrameFault → Option (List ℕ) → List ℕ → Type 0
-BeginsNoBlob at fault left bytes = (bytes ≢ []) × (((more : List ℕ) → frame_front at (bytes ++ more) ≡ Err fault) ⊎ ((frame_front at bytes ≡ Err fault) × IsAtEnd left))
+BeginsNoBlob at fault left bytes = (bytes ≢ []) × (((more : List ℕ) → frame_front at (bytes ++ more) ≡ Err fault) ⊎ ((frame_front at bytes ≡ Err fault) × HasNone left))
 
 -- ---- the next blob
 
@@ -47,7 +47,7 @@ pub record FailsBehind (at told : ℕ) (fault : model.FrameFault) (left : Option
 -- What was taken at this offset: blobs that are passed over, and then the blob that was given, or the end of the input, or what begins with no blob. Where the source failed nothing is said.
 abbrev pub TakesBlobs : Option (List ℕ) → ℕ → List ℕ → Result (Option Frame) NextFault → Option (List ℕ) → ℕ → Type 0
 TakesBlobs before at block (Ok (Some f)) now to = Took before at (λ bytes. LeadsTo at bytes (frame_shown block f)) now to
-TakesBlobs before at block (Ok None) now to = Took before at (λ bytes. PassesOver at bytes × IsAtEnd now) now to
+TakesBlobs before at block (Ok None) now to = Took before at (λ bytes. PassesOver at bytes × HasNone now) now to
 TakesBlobs before at block (Err (next_fault.Frame told fault)) now to = Took before at (FailsBehind at told (fault_shown fault) now) now to
 TakesBlobs before at block (Err next_fault.Read) now to = ⊤
 

@@ -3,7 +3,7 @@
 ghost use Rattle.std.specs.Prelude.{◌≡◌, ◌⊎◌, ◌+◌, ◌-◌, ◌*◌, ◌<◌, ◌≤◌, ◌^◌, ◌∷◌, ◌≢◌, length, IfOk, IfSome, OnOk, Ok, Err, Some, None};
 ghost use Rattle.byteorder.specs.Endian.{big_number};
 ghost use Rattle.mf_base.specs.Spelling.{IsBytes};
-ghost use Rattle.mf_edge.specs.Device.{HasRisen};
+ghost use Rattle.mf_edge.specs.Device.{CountsOne};
 ghost use Rattle.pbf_frame.specs.BlobSteps.{fault_shown};
 ghost use Rattle.pbf_frame.specs.FrameReading.{BeginsNoBlob};
 ghost use Rattle.pbf_frame.specs.BlobReading.{Tells, IsCut, IsFirst, HasLength, HasHead, HeadFails, HoldsBlob, BlobFails, SpellsStep};
@@ -39,18 +39,19 @@ pub(crate) fn read_blob<S: Source>(
 ) -> Result<Step, NextFault>
     requires room { 33554432 ≤ block.old.capacity }
     requires offset { src.old.offset < 2 ^ 63 - 1 }
-    ensures tells { Tells (SpellsStep src.old.offset block.new.bytes (S.left src.new.source.now)) (λ fault bytes. BeginsNoBlob src.old.offset (fault_shown fault) (S.left src.new.source.now) bytes) src.old.offset (S.left src.old.source.now) src.old.offset result (S.left src.new.source.now) src.new.offset }
+    ensures tells { Tells (SpellsStep src.old.offset block.new.bytes (S.state src.new.source.now).left) (λ fault bytes. BeginsNoBlob src.old.offset (fault_shown fault) (S.state src.new.source.now).left bytes) src.old.offset (S.state src.old.source.now).left src.old.offset result (S.state src.new.source.now).left src.new.offset }
 
-    ensures read { result ≡ Err NextFault.Read → HasRisen (S.faults src.old.source.now) (S.faults src.new.source.now) }
-    ensures counts { S.faults src.old.source.now ≤ S.faults src.new.source.now }
+    ensures read { result ≡ Err NextFault.Read → CountsOne (S.state src.old.source.now).faults (S.state src.new.source.now).faults }
+    ensures same_faults { result ≢ Err NextFault.Read → (S.state src.new.source.now).faults ≡ (S.state src.old.source.now).faults }
+    ensures counts { (S.state src.old.source.now).faults ≤ (S.state src.new.source.now).faults }
     ensures rises { src.old.offset ≤ src.new.offset }
     ensures place { (f : Frame) → result ≡ Ok (Step.Kept f) → (f.start ≤ f.end) × (f.end ≤ length block.new.bytes) }
     ensures near { (step : Step) → result ≡ Ok step → step ≢ Step.End → src.old.offset < 2 ^ 62 }
     ensures far { src.new.offset ≤ src.old.offset + 33619971 }
     ensures ends { 2 ^ 62 ≤ src.old.offset → src.new.offset ≤ src.old.offset + 1 }
     ensures grows { (step : Step) → result ≡ Ok step → step ≢ Step.End → src.old.offset < src.new.offset }
-    ensures reads_of_one { (step : Step) → result ≡ Ok step → step ≢ Step.End → S.reads src.new.source.now + 2 * src.old.offset ≤ S.reads src.old.source.now + 2 * src.new.offset }
-    ensures reads { S.reads src.new.source.now + 2 * src.old.offset ≤ S.reads src.old.source.now + 2 * src.new.offset + 2 ^ 26 }
+    ensures reads_of_one { (step : Step) → result ≡ Ok step → step ≢ Step.End → (S.state src.new.source.now).reads + 2 * src.old.offset ≤ (S.state src.old.source.now).reads + 2 * src.new.offset }
+    ensures reads { (S.state src.new.source.now).reads + 2 * src.old.offset ≤ (S.state src.old.source.now).reads + 2 * src.new.offset + 2 ^ 26 }
     ensures capacity { block.new.capacity ≡ block.old.capacity }
     ensures same_reference { src.new.source.ghost_name ≡ src.old.source.ghost_name }
 {
@@ -67,14 +68,15 @@ pub(crate) fn read_blob<S: Source>(
 fn first_byte<S: Source>(src: &mut Stream<S>, block: &mut Block) -> Result<Option<u8>, NextFault>
     requires room { 1 ≤ block.old.capacity }
     requires offset { src.old.offset < 2 ^ 63 - 1 }
-    ensures tells { Tells (IsFirst (S.left src.new.source.now)) (λ _ _. ⊥) 0 (S.left src.old.source.now) src.old.offset result (S.left src.new.source.now) src.new.offset }
+    ensures tells { Tells (IsFirst (S.state src.new.source.now).left) (λ _ _. ⊥) 0 (S.state src.old.source.now).left src.old.offset result (S.state src.new.source.now).left src.new.offset }
 
-    ensures read { result ≡ Err NextFault.Read → HasRisen (S.faults src.old.source.now) (S.faults src.new.source.now) }
-    ensures counts { S.faults src.old.source.now ≤ S.faults src.new.source.now }
+    ensures read { result ≡ Err NextFault.Read → CountsOne (S.state src.old.source.now).faults (S.state src.new.source.now).faults }
+    ensures same_faults { result ≢ Err NextFault.Read → (S.state src.new.source.now).faults ≡ (S.state src.old.source.now).faults }
+    ensures counts { (S.state src.old.source.now).faults ≤ (S.state src.new.source.now).faults }
     ensures rises { src.old.offset ≤ src.new.offset }
     ensures passed { IfOk result (λ first. IfSome first (λ _. src.new.offset ≡ src.old.offset + 1)) }
     ensures far { src.new.offset ≤ src.old.offset + 1 }
-    ensures reads { S.reads src.new.source.now ≤ S.reads src.old.source.now + 2 }
+    ensures reads { (S.state src.new.source.now).reads ≤ (S.state src.old.source.now).reads + 2 }
     ensures capacity { block.new.capacity ≡ block.old.capacity }
     ensures same_reference { src.new.source.ghost_name ≡ src.old.source.ghost_name }
 {
@@ -95,17 +97,18 @@ fn head_size<S: Source>(
     requires room { 3 ≤ block.old.capacity }
     requires offset { src.old.offset ≡ at + 1 }
     requires within { at < 2 ^ 63 - 1 }
-    ensures tells { Tells (λ size bytes. HasLength at size (first ∷ bytes)) (λ fault bytes. BeginsNoBlob at (fault_shown fault) (S.left src.new.source.now) (first ∷ bytes)) at (S.left src.old.source.now) src.old.offset result (S.left src.new.source.now) src.new.offset }
+    ensures tells { Tells (λ size bytes. HasLength at size (first ∷ bytes)) (λ fault bytes. BeginsNoBlob at (fault_shown fault) (S.state src.new.source.now).left (first ∷ bytes)) at (S.state src.old.source.now).left src.old.offset result (S.state src.new.source.now).left src.new.offset }
 
-    ensures read { result ≡ Err NextFault.Read → HasRisen (S.faults src.old.source.now) (S.faults src.new.source.now) }
-    ensures counts { S.faults src.old.source.now ≤ S.faults src.new.source.now }
+    ensures read { result ≡ Err NextFault.Read → CountsOne (S.state src.old.source.now).faults (S.state src.new.source.now).faults }
+    ensures same_faults { result ≢ Err NextFault.Read → (S.state src.new.source.now).faults ≡ (S.state src.old.source.now).faults }
+    ensures counts { (S.state src.old.source.now).faults ≤ (S.state src.new.source.now).faults }
     ensures rises { src.old.offset ≤ src.new.offset }
     ensures near { OnOk result (at < 2 ^ 62) }
     ensures few { IfOk result (λ size. size ≤ 65535) }
     ensures passed { OnOk result (src.new.offset ≡ src.old.offset + 3) }
     ensures far { src.new.offset ≤ src.old.offset + 3 }
     ensures ends { 2 ^ 62 ≤ at → src.new.offset ≡ src.old.offset }
-    ensures reads { S.reads src.new.source.now ≤ S.reads src.old.source.now + 4 }
+    ensures reads { (S.state src.new.source.now).reads ≤ (S.state src.old.source.now).reads + 4 }
     ensures capacity { block.new.capacity ≡ block.old.capacity }
     ensures same_reference { src.new.source.ghost_name ≡ src.old.source.ghost_name }
 {
@@ -144,15 +147,16 @@ fn read_head<S: Source>(
 ) -> Result<BlobHead, NextFault>
     requires room { size ≤ block.old.capacity }
     requires offset { src.old.offset + size < 2 ^ 63 }
-    ensures tells { Tells (HasHead size) (HeadFails size (S.left src.new.source.now)) at (S.left src.old.source.now) src.old.offset result (S.left src.new.source.now) src.new.offset }
+    ensures tells { Tells (HasHead size) (HeadFails size (S.state src.new.source.now).left) at (S.state src.old.source.now).left src.old.offset result (S.state src.new.source.now).left src.new.offset }
 
-    ensures read { result ≡ Err NextFault.Read → HasRisen (S.faults src.old.source.now) (S.faults src.new.source.now) }
-    ensures counts { S.faults src.old.source.now ≤ S.faults src.new.source.now }
+    ensures read { result ≡ Err NextFault.Read → CountsOne (S.state src.old.source.now).faults (S.state src.new.source.now).faults }
+    ensures same_faults { result ≢ Err NextFault.Read → (S.state src.new.source.now).faults ≡ (S.state src.old.source.now).faults }
+    ensures counts { (S.state src.old.source.now).faults ≤ (S.state src.new.source.now).faults }
     ensures rises { src.old.offset ≤ src.new.offset }
     ensures few { IfOk result (λ head. head.size ≤ 33554432) }
     ensures passed { OnOk result (src.new.offset ≡ src.old.offset + size) }
     ensures far { src.new.offset ≤ src.old.offset + size }
-    ensures reads { S.reads src.new.source.now ≤ S.reads src.old.source.now + (size + 1) }
+    ensures reads { (S.state src.new.source.now).reads ≤ (S.state src.old.source.now).reads + (size + 1) }
     ensures capacity { block.new.capacity ≡ block.old.capacity }
     ensures same_reference { src.new.source.ghost_name ≡ src.old.source.ghost_name }
 {
@@ -173,15 +177,16 @@ fn read_body<S: Source>(
     requires some_room { 1 ≤ block.old.capacity }
     requires room { head.size ≤ block.old.capacity }
     requires offset { src.old.offset + head.size < 2 ^ 63 }
-    ensures tells { Tells (λ step bytes. (length bytes ≡ head.size) × HoldsBlob head.kind at block.new.bytes step bytes) (BlobFails head (S.left src.new.source.now)) at (S.left src.old.source.now) src.old.offset result (S.left src.new.source.now) src.new.offset }
+    ensures tells { Tells (λ step bytes. (length bytes ≡ head.size) × HoldsBlob head.kind at block.new.bytes step bytes) (BlobFails head (S.state src.new.source.now).left) at (S.state src.old.source.now).left src.old.offset result (S.state src.new.source.now).left src.new.offset }
 
-    ensures read { result ≡ Err NextFault.Read → HasRisen (S.faults src.old.source.now) (S.faults src.new.source.now) }
-    ensures counts { S.faults src.old.source.now ≤ S.faults src.new.source.now }
+    ensures read { result ≡ Err NextFault.Read → CountsOne (S.state src.old.source.now).faults (S.state src.new.source.now).faults }
+    ensures same_faults { result ≢ Err NextFault.Read → (S.state src.new.source.now).faults ≡ (S.state src.old.source.now).faults }
+    ensures counts { (S.state src.old.source.now).faults ≤ (S.state src.new.source.now).faults }
     ensures rises { src.old.offset ≤ src.new.offset }
     ensures place { (f : Frame) → result ≡ Ok (Step.Kept f) → (f.start ≤ f.end) × (f.end ≤ length block.new.bytes) }
     ensures passed { OnOk result (src.new.offset ≡ src.old.offset + head.size) }
     ensures far { src.new.offset ≤ src.old.offset + head.size }
-    ensures reads { S.reads src.new.source.now ≤ S.reads src.old.source.now + (head.size + 1) }
+    ensures reads { (S.state src.new.source.now).reads ≤ (S.state src.old.source.now).reads + (head.size + 1) }
     ensures capacity { block.new.capacity ≡ block.old.capacity }
     ensures same_reference { src.new.source.ghost_name ≡ src.old.source.ghost_name }
 {
@@ -201,15 +206,16 @@ fn read_raw<S: Source>(
 ) -> Result<Step, NextFault>
     requires room { size ≤ block.old.capacity }
     requires offset { src.old.offset + size < 2 ^ 63 }
-    ensures tells { Tells (λ step bytes. (length bytes ≡ size) × HoldsBlob (Some kind) at block.new.bytes step bytes) (BlobFails (record { kind = Some kind; size = size }) (S.left src.new.source.now)) at (S.left src.old.source.now) src.old.offset result (S.left src.new.source.now) src.new.offset }
+    ensures tells { Tells (λ step bytes. (length bytes ≡ size) × HoldsBlob (Some kind) at block.new.bytes step bytes) (BlobFails (record { kind = Some kind; size = size }) (S.state src.new.source.now).left) at (S.state src.old.source.now).left src.old.offset result (S.state src.new.source.now).left src.new.offset }
 
-    ensures read { result ≡ Err NextFault.Read → HasRisen (S.faults src.old.source.now) (S.faults src.new.source.now) }
-    ensures counts { S.faults src.old.source.now ≤ S.faults src.new.source.now }
+    ensures read { result ≡ Err NextFault.Read → CountsOne (S.state src.old.source.now).faults (S.state src.new.source.now).faults }
+    ensures same_faults { result ≢ Err NextFault.Read → (S.state src.new.source.now).faults ≡ (S.state src.old.source.now).faults }
+    ensures counts { (S.state src.old.source.now).faults ≤ (S.state src.new.source.now).faults }
     ensures rises { src.old.offset ≤ src.new.offset }
     ensures place { (f : Frame) → result ≡ Ok (Step.Kept f) → (f.start ≤ f.end) × (f.end ≤ length block.new.bytes) }
     ensures passed { OnOk result (src.new.offset ≡ src.old.offset + size) }
     ensures far { src.new.offset ≤ src.old.offset + size }
-    ensures reads { S.reads src.new.source.now ≤ S.reads src.old.source.now + (size + 1) }
+    ensures reads { (S.state src.new.source.now).reads ≤ (S.state src.old.source.now).reads + (size + 1) }
     ensures capacity { block.new.capacity ≡ block.old.capacity }
     ensures same_reference { src.new.source.ghost_name ≡ src.old.source.ghost_name }
 {
@@ -234,15 +240,16 @@ fn pass_over<S: Source>(
 ) -> Result<Step, NextFault>
     requires room { 1 ≤ block.old.capacity }
     requires offset { src.old.offset + size < 2 ^ 63 }
-    ensures tells { Tells (λ step bytes. (length bytes ≡ size) × HoldsBlob None at block.new.bytes step bytes) (BlobFails (record { kind = None; size = size }) (S.left src.new.source.now)) at (S.left src.old.source.now) src.old.offset result (S.left src.new.source.now) src.new.offset }
+    ensures tells { Tells (λ step bytes. (length bytes ≡ size) × HoldsBlob None at block.new.bytes step bytes) (BlobFails (record { kind = None; size = size }) (S.state src.new.source.now).left) at (S.state src.old.source.now).left src.old.offset result (S.state src.new.source.now).left src.new.offset }
 
-    ensures read { result ≡ Err NextFault.Read → HasRisen (S.faults src.old.source.now) (S.faults src.new.source.now) }
-    ensures counts { S.faults src.old.source.now ≤ S.faults src.new.source.now }
+    ensures read { result ≡ Err NextFault.Read → CountsOne (S.state src.old.source.now).faults (S.state src.new.source.now).faults }
+    ensures same_faults { result ≢ Err NextFault.Read → (S.state src.new.source.now).faults ≡ (S.state src.old.source.now).faults }
+    ensures counts { (S.state src.old.source.now).faults ≤ (S.state src.new.source.now).faults }
     ensures rises { src.old.offset ≤ src.new.offset }
     ensures place { (f : Frame) → result ≡ Ok (Step.Kept f) → (f.start ≤ f.end) × (f.end ≤ length block.new.bytes) }
     ensures passed { OnOk result (src.new.offset ≡ src.old.offset + size) }
     ensures far { src.new.offset ≤ src.old.offset + size }
-    ensures reads { S.reads src.new.source.now ≤ S.reads src.old.source.now + (size + 1) }
+    ensures reads { (S.state src.new.source.now).reads ≤ (S.state src.old.source.now).reads + (size + 1) }
     ensures capacity { block.new.capacity ≡ block.old.capacity }
     ensures same_reference { src.new.source.ghost_name ≡ src.old.source.ghost_name }
 {
@@ -264,15 +271,16 @@ fn fill_part<S: Source>(
     requires room { size ≤ block.old.capacity }
     requires offset { src.old.offset + size < 2 ^ 63 }
     requires had { had ≤ 1 }
-    ensures tells { Tells (λ _ bytes. (bytes ≡ block.new.bytes) × (length bytes ≡ size)) (IsCut had size (S.left src.new.source.now)) at (S.left src.old.source.now) src.old.offset result (S.left src.new.source.now) src.new.offset }
+    ensures tells { Tells (λ _ bytes. (bytes ≡ block.new.bytes) × (length bytes ≡ size)) (IsCut had size (S.state src.new.source.now).left) at (S.state src.old.source.now).left src.old.offset result (S.state src.new.source.now).left src.new.offset }
 
-    ensures read { result ≡ Err NextFault.Read → HasRisen (S.faults src.old.source.now) (S.faults src.new.source.now) }
-    ensures counts { S.faults src.old.source.now ≤ S.faults src.new.source.now }
+    ensures read { result ≡ Err NextFault.Read → CountsOne (S.state src.old.source.now).faults (S.state src.new.source.now).faults }
+    ensures same_faults { result ≢ Err NextFault.Read → (S.state src.new.source.now).faults ≡ (S.state src.old.source.now).faults }
+    ensures counts { (S.state src.old.source.now).faults ≤ (S.state src.new.source.now).faults }
     ensures rises { src.old.offset ≤ src.new.offset }
     ensures long { OnOk result (length block.new.bytes ≡ size) }
     ensures passed { OnOk result (src.new.offset ≡ src.old.offset + size) }
     ensures far { src.new.offset ≤ src.old.offset + size }
-    ensures reads { S.reads src.new.source.now ≤ S.reads src.old.source.now + (size + 1) }
+    ensures reads { (S.state src.new.source.now).reads ≤ (S.state src.old.source.now).reads + (size + 1) }
     ensures capacity { block.new.capacity ≡ block.old.capacity }
     ensures same_reference { src.new.source.ghost_name ≡ src.old.source.ghost_name }
 {

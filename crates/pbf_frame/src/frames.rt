@@ -1,7 +1,7 @@
 //! The blobs of an input, however it is cut: the OpenStreetMap wiki, "PBF Format", on its file format.
 
 ghost use Rattle.std.specs.Prelude.{◌≡◌, ◌≢◌, ◌↔◌, ℕ, ◌+◌, ◌-◌, ◌*◌, ◌<◌, ◌≤◌, ◌^◌, List, length, IfOk, IfSome, Ok, Err, Some, None};
-ghost use Rattle.mf_edge.specs.Device.{HasRisen};
+ghost use Rattle.mf_edge.specs.Device.{CountsOne};
 ghost use Rattle.osm_model.specs.Frames.{frames_at, next_known, PassesOver};
 ghost use Rattle.pbf_frame.specs.FrameReading.{TakesBlobs, IsNext, GivesBlob, known_at};
 
@@ -34,14 +34,14 @@ impl Frames {
         requires offset { src.old.offset < 2 ^ 63 - 1 }
 
         // Over every source, also one that does not tell its bytes.
-        ensures takes { TakesBlobs (S.left src.old.source.now) src.old.offset block.new.bytes result (S.left src.new.source.now) src.new.offset }
+        ensures takes { TakesBlobs (S.state src.old.source.now).left src.old.offset block.new.bytes result (S.state src.new.source.now).left src.new.offset }
 
         // Over a source that tells its bytes: what comes next, exactly, and what is left to come.
-        ensures next { (all : List ℕ) → S.left src.old.source.now ≡ Some all → IsNext block.new.bytes result (next_known (frames_at src.old.offset all)) }
-        ensures in_order { (all rest : List ℕ) → S.left src.old.source.now ≡ Some all → S.left src.new.source.now ≡ Some rest → GivesBlob block.new.bytes result (known_at src.old.offset all) (known_at src.new.offset rest) }
-        ensures end { (all : List ℕ) → S.left src.old.source.now ≡ Some all → result ≢ Err NextFault.Read → ((result ≡ Ok None) ↔ PassesOver src.old.offset all) }
+        ensures next { (all : List ℕ) → (S.state src.old.source.now).left ≡ Some all → IsNext block.new.bytes result (next_known (frames_at src.old.offset all)) }
+        ensures in_order { (all rest : List ℕ) → (S.state src.old.source.now).left ≡ Some all → (S.state src.new.source.now).left ≡ Some rest → GivesBlob block.new.bytes result (known_at src.old.offset all) (known_at src.new.offset rest) }
+        ensures end { (all : List ℕ) → (S.state src.old.source.now).left ≡ Some all → result ≢ Err NextFault.Read → ((result ≡ Ok None) ↔ PassesOver src.old.offset all) }
 
-        ensures read { result ≡ Err NextFault.Read → HasRisen (S.faults src.old.source.now) (S.faults src.new.source.now) }
+        ensures read { result ≡ Err NextFault.Read → CountsOne (S.state src.old.source.now).faults (S.state src.new.source.now).faults }
         ensures place { IfOk result (λ next. IfSome next (λ f. (f.start ≤ f.end) × (f.end ≤ length block.new.bytes))) }
         ensures below { IfOk result (λ next. IfSome next (λ _. src.new.offset < 2 ^ 62 + 2 ^ 26)) }
 
@@ -51,8 +51,9 @@ impl Frames {
         ensures rises { src.old.offset ≤ src.new.offset }
 
         // Two reads for each byte that was taken, and those of one blob more.
-        ensures reads { S.reads src.new.source.now + 2 * src.old.offset ≤ S.reads src.old.source.now + 2 * src.new.offset + 2 ^ 26 }
-        ensures counts { S.faults src.old.source.now ≤ S.faults src.new.source.now }
+        ensures reads { (S.state src.new.source.now).reads + 2 * src.old.offset ≤ (S.state src.old.source.now).reads + 2 * src.new.offset + 2 ^ 26 }
+        ensures same_faults { result ≢ Err NextFault.Read → (S.state src.new.source.now).faults ≡ (S.state src.old.source.now).faults }
+        ensures counts { (S.state src.old.source.now).faults ≤ (S.state src.new.source.now).faults }
         ensures capacity { block.new.capacity ≡ block.old.capacity }
         ensures same_reference { src.new.source.ghost_name ≡ src.old.source.ghost_name }
     {
@@ -64,9 +65,9 @@ impl Frames {
 fn next_blob<S: Source>(src: &mut Stream<S>, block: &mut Block) -> Result<Option<Frame>, NextFault>
     requires room { 33554432 ≤ block.old.capacity }
     requires offset { src.old.offset < 2 ^ 63 - 1 }
-    ensures takes { TakesBlobs (S.left src.old.source.now) src.old.offset block.new.bytes result (S.left src.new.source.now) src.new.offset }
+    ensures takes { TakesBlobs (S.state src.old.source.now).left src.old.offset block.new.bytes result (S.state src.new.source.now).left src.new.offset }
 
-    ensures read { result ≡ Err NextFault.Read → HasRisen (S.faults src.old.source.now) (S.faults src.new.source.now) }
+    ensures read { result ≡ Err NextFault.Read → CountsOne (S.state src.old.source.now).faults (S.state src.new.source.now).faults }
     ensures place { IfOk result (λ next. IfSome next (λ f. (f.start ≤ f.end) × (f.end ≤ length block.new.bytes))) }
     ensures below { IfOk result (λ next. IfSome next (λ _. src.new.offset < 2 ^ 62 + 2 ^ 26)) }
 
@@ -74,8 +75,9 @@ fn next_blob<S: Source>(src: &mut Stream<S>, block: &mut Block) -> Result<Option
     ensures far { 2 ^ 62 ≤ src.old.offset → src.new.offset ≤ src.old.offset + 1 }
     ensures rises { src.old.offset ≤ src.new.offset }
 
-    ensures reads { S.reads src.new.source.now + 2 * src.old.offset ≤ S.reads src.old.source.now + 2 * src.new.offset + 2 ^ 26 }
-    ensures counts { S.faults src.old.source.now ≤ S.faults src.new.source.now }
+    ensures reads { (S.state src.new.source.now).reads + 2 * src.old.offset ≤ (S.state src.old.source.now).reads + 2 * src.new.offset + 2 ^ 26 }
+    ensures same_faults { result ≢ Err NextFault.Read → (S.state src.new.source.now).faults ≡ (S.state src.old.source.now).faults }
+    ensures counts { (S.state src.old.source.now).faults ≤ (S.state src.new.source.now).faults }
     ensures capacity { block.new.capacity ≡ block.old.capacity }
     ensures same_reference { src.new.source.ghost_name ≡ src.old.source.ghost_name }
 {

@@ -12,10 +12,10 @@ returns-in-Ok-clause-written g c =
       v,
       record {
         sound = c.in-Some.ensures.found.0;
-        taken = subst (λ b. Takes (g.S.Source.left c.args.input.now) b (g.S.Source.left c.read_input.new.input)) (sym c.bytes.ensures ∙ c.in-Some.ensures.found.1) c.in_ok-read_input.ensures.whole.0;
+        taken = subst (λ b. Takes (g.S.Source.state c.args.input.now).left b (g.S.Source.state c.read_input.new.input).left) (sym c.bytes.ensures.bytes ∙ c.in-Some.ensures.found.1) c.in_ok-read_input.ensures.whole.0;
         nothing_left = c.in_ok-read_input.ensures.whole.1;
       },
-      subst (λ b. Gains (g.K.Sink.taken c.args.output.now) b (g.K.Sink.taken c.write_map.new.output)) map c.in-Ok.ensures.all,
+      subst (λ b. Gains (g.K.Sink.state c.args.output.now).taken b (g.K.Sink.state c.write_map.new.output).taken) map c.in-Ok.ensures.all,
       report-made w v _ _ _ _ _ _ c.requires.words c.spell_map-counts.ensures.nodes c.spell_map-counts.ensures.features c.spell_map-counts.ensures.shown c.in-Ok.ensures.size map c.report_of.ensures,
     )
 
@@ -27,9 +27,9 @@ returns-in-Err-clause-begun g c = λ is.
       record {
         input = record {
           sound = c.in-Some.ensures.found.0;
-          taken = subst (λ b. Takes (g.S.Source.left c.args.input.now) b (g.S.Source.left c.read_input.new.input)) (sym c.bytes.ensures ∙ c.in-Some.ensures.found.1) c.in_ok-read_input.ensures.whole.0;
+          taken = subst (λ b. Takes (g.S.Source.state c.args.input.now).left b (g.S.Source.state c.read_input.new.input).left) (sym c.bytes.ensures.bytes ∙ c.in-Some.ensures.found.1) c.in_ok-read_input.ensures.whole.0;
           nothing_left = c.in_ok-read_input.ensures.whole.1;
         };
-        front = subst (λ b. GainsFront (g.K.Sink.taken c.args.output.now) b (g.K.Sink.taken c.write_map.new.output)) map c.in-Err.ensures.front;
+        front = subst (λ b. GainsFront (g.K.Sink.state c.args.output.now).taken b (g.K.Sink.state c.write_map.new.output).taken) map c.in-Err.ensures.front;
       },
     )

@@ -1,6 +1,9 @@
-use Rattle.std.proofs.Common.{◌≡◌, ◌≢◌, ◌∙◌, ◌+◌, ◌<◌, ◌≤◌, ◌^◌, ℕ, ap, arith, rules, inl, inr, Ok, Err}
+use Rattle.std.proofs.Common.{◌≡◌, ◌≢◌, ◌∙◌, ◌+◌, ◌<◌, ◌≤◌, ◌^◌, ℕ, ap, arith, rules, inl, inr, Result, Ok, Err}
 use Rattle.std.proofs.lemmas.Bool.{cases_lt}
+use Rattle.pbf_frame.specs.declared.blob_read.Step.{Step}
 use Rattle.pbf_frame.specs.declared.blob_read.Step.TheVariants.{End, Passed, Kept}
+use Rattle.pbf_frame.specs.declared.frame_fault.NextFault.{NextFault}
+use Rattle.pbf_frame.specs.declared.frame_fault.NextFault.TheVariants.{Read}
 use Rattle.pbf_frame.proofs.NextBlob.{took-passed, takes-blob, takes-fault}
 use Rattle.pbf_frame.proofs.frames.next_blob.Goals as goal
 
@@ -13,6 +16,9 @@ near_after m to near far ends = elim (cases_lt m (2 ^ 62)) [
 
 passed_no_end : Passed ≢ End
 passed_no_end e = cc
+
+no_fault : (r : Result Step NextFault) → r ≡ Ok Passed → r ≢ Err Read
+no_fault r e f = absurd (cc (e, f))
 
 pub returns-in_err-read_blob-clause-takes : goal.returns-in_err-read_blob-clause-takes
 returns-in_err-read_blob-clause-takes g c =
@@ -35,7 +41,7 @@ loop-frame-preserved g c =
     let reads = c.read_blob.ensures.reads_of_one Passed is passed_no_end in
     let inv = c.loop-frame.invariant in (
       took-passed _ _ _ _ _ _ c.read_blob.new.block.bytes inv.0 (rw is at c.read_blob.ensures.tells),
-      omega (arith, inv.1, c.read_blob.ensures.counts),
+      c.read_blob.ensures.same_faults (no_fault c.read_blob.result is) ∙ inv.1,
       c.read_blob.ensures.capacity ∙ inv.2,
       c.read_blob.ensures.same_reference ∙ inv.3,
       omega (arith, inv.4, reads),

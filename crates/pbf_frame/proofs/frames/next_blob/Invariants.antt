@@ -6,11 +6,11 @@ use Rattle.pbf_frame.proofs.frames.next_blob.Given as goal
 -- blobs were passed over
 abbrev pub invariant-loop-frame : goal.invariant-loop-frame
 invariant-loop-frame g l =
-    Took (g.S.Source.left l.fn.src.source.now) l.fn.src.offset (PassesOver l.fn.src.offset) (g.S.Source.left l.src.source.now) l.src.offset
-    × (g.S.Source.faults l.fn.src.source.now ≤ g.S.Source.faults l.src.source.now)
+    Took (g.S.Source.state l.fn.src.source.now).left l.fn.src.offset (PassesOver l.fn.src.offset) (g.S.Source.state l.src.source.now).left l.src.offset
+    × ((g.S.Source.state l.src.source.now).faults ≡ (g.S.Source.state l.fn.src.source.now).faults)
     × (l.block.capacity ≡ l.fn.block.capacity)
     × (l.src.source.ghost_name ≡ l.fn.src.source.ghost_name)
-    × (g.S.Source.reads l.src.source.now + 2 * l.fn.src.offset ≤ g.S.Source.reads l.fn.src.source.now + 2 * l.src.offset)
+    × ((g.S.Source.state l.src.source.now).reads + 2 * l.fn.src.offset ≤ (g.S.Source.state l.fn.src.source.now).reads + 2 * l.src.offset)
     × (l.fn.src.offset ≤ l.src.offset)
     × (l.fn.src.offset < 2 ^ 62 → l.src.offset < 2 ^ 62 + 33619972)
     × (2 ^ 62 ≤ l.fn.src.offset → l.src.offset ≡ l.fn.src.offset)
