@@ -17,5 +17,5 @@ pub mod OneMap
 pub mod ToldWords
 pub mod BenchRows
 pub mod Statuses
-pub mod Programs
+pub mod Runs
 pub mod Others

@@ -9,6 +9,7 @@ use Rattle.mfwrite.specs.declared.first_words.FirstWords.{FirstWords}
 use Rattle.pbf_frame.specs.FirstForm.{kept_keys}
 use Rattle.map_model.specs.MapFile.{Report}
 use Rattle.mfwrite.specs.declared.report.Report as told
+use Rattle.mfwrite.specs.declared.status.TheConstants.{READ, WRITE, MEMORY, NOT_BUILT}
 use Rattle.mfwrite.specs.declared.status.Fault.{Fault}
 use Rattle.mfwrite.specs.declared.status.Fault.TheVariants.{Read, Write, Memory, NotBuilt}
 
@@ -34,10 +35,10 @@ words_shown w = record { entry = plain_entry w.key.now w.value.now w.zoom; inter
 
 -- the status of a fault
 abbrev pub fault_status : Fault → ℕ
-fault_status Read = 6
-fault_status Write = 7
-fault_status Memory = 9
-fault_status NotBuilt = 11
+fault_status Read = READ
+fault_status Write = WRITE
+fault_status Memory = MEMORY
+fault_status NotBuilt = NOT_BUILT
 
 -- the report that is told: of ways, relations, skipped candidates and water there are none
 abbrev pub report_shown : told.Report → Report

@@ -3,6 +3,7 @@
 //! Read `run` first: its contract is what the program promises. `prepare` makes a `job` of the words, which `first_words` reads. `map` reads the input, lists the POIs (`poi_list`) and writes the header (`head`), the index (`index`) and the tile; `status` has the texts, `report` the line of a finished run. `laws` and `rows` are about the definitions.
 #![tactic(auto)]
 
+mod arguments;
 mod first_words;
 mod head;
 mod index;
@@ -18,19 +19,26 @@ mod status;
 #[cfg(test)]
 mod tests;
 
+use arguments::behind_the_name;
 use mf_edge::{ReadSource, WriteSink};
 use prepare::{Prepared, Refusal};
 use run::{program, run};
-use std::env;
 use std::io::ErrorKind;
 use std::process::ExitCode;
+use std::{env, io};
 
 fn main(rt: HostRuntime) -> ExitCode {
     let mut input = ReadSource::new(rt.stdin());
     let mut output = WriteSink::new(rt.stdout());
     let mut say = WriteSink::new(rt.stderr());
-    let status = match words_of(&rt) {
-        Ok(words) => program(rt.alloc(), &words, &mut input, &mut output, &mut say),
+    let status = match all_words(&rt) {
+        Ok(all) => program(
+            rt.alloc(),
+            behind_the_name(&all),
+            &mut input,
+            &mut output,
+            &mut say,
+        ),
         Err(refusal) => run(
             Prepared::Refused(refusal),
             &mut input,
@@ -41,18 +49,16 @@ fn main(rt: HostRuntime) -> ExitCode {
     ExitCode::from(status)
 }
 
-// The words of the command line, without the program's name.
-fn words_of(rt: &HostRuntime) -> Result<Vec<String>, Refusal> {
-    let mut words = Vec::new(rt.alloc());
-    let all = match env::args(rt) {
-        Ok(all) => all,
-        Err(e) if e.kind() == ErrorKind::OutOfMemory => return Err(Refusal::Memory),
-        Err(_) => return Err(Refusal::NotBuilt),
-    };
-    for word in all.skip(1) {
-        if words.push(word).is_err() {
-            return Err(Refusal::Memory);
-        }
+// The words of the command line, with the program's name.
+fn all_words(rt: &HostRuntime) -> Result<Vec<String>, Refusal> {
+    let all = env::args(rt).map_err(refusal_of)?;
+    all.collect(rt.alloc()).map_err(|_| Refusal::Memory)
+}
+
+// Why the words can't be had.
+fn refusal_of(fault: io::Error) -> Refusal {
+    match fault.kind() {
+        ErrorKind::OutOfMemory => Refusal::Memory,
+        _ => Refusal::NotBuilt,
     }
-    Ok(words)
 }

@@ -2,12 +2,12 @@
 
 ghost use Rattle.std.specs.Prelude.{◌≡◌, ◌≢◌, ◌≤◌, ◌<◌, ◌^◌, ◌+◌, ◌*◌, ◌++◌, [], ◌∷◌, ℕ, List, length, min, max, vec_capacity, IfOk, OnOk, OnErr, Err};
 ghost use Rattle.mf_base.specs.Buffer.{HasRoom, AppendsTo};
-ghost use Rattle.mf_edge.specs.Device.{Takes, IsAtEnd, Gains, GainsFront, CountsOne, HasRisen};
+ghost use Rattle.mf_edge.specs.Device.{Took, IsAtEnd, Gained, GainedFront, CountsOne};
 ghost use Rattle.tile_body.specs.FirstTile.{AreMembers, first_tile_bytes};
 ghost use Rattle.pbf_frame.specs.FirstForm.{FirstValue, IsFirstForm, first_limit, nodes_told};
 ghost use Rattle.mfwrite.specs.FirstJob.{AreFirstWords, IsEmptyRoom, most_pois, front_room, tile_room};
 ghost use Rattle.mfwrite.specs.FirstMap.{first_map, first_report, front_bytes, matching, world_corner, pois as pois_told};
-ghost use Rattle.mfwrite.specs.FirstRun.{IsRead, IsBegun, IsOther};
+ghost use Rattle.mfwrite.specs.FirstRun.{IsRead, IsOther};
 ghost use Rattle.mfwrite.specs.Shown.{report_shown, words_shown};
 
 use crate::first_words::FirstWords;
@@ -33,7 +33,6 @@ const WORLD_CORNER: Place = Place {
 const POI_WEIGHT: u64 = 11;
 
 /// Makes the map of an input, and tells what it has.
-#[tactic(auto, using(mf_edge::proofs::Counting::counting))]
 pub(crate) fn make_map<S: Source, K: Sink>(
     words: &FirstWords,
     room: &mut Room,
@@ -43,15 +42,22 @@ pub(crate) fn make_map<S: Source, K: Sink>(
     requires words { AreFirstWords (words_shown words.now) }
     requires room { IsEmptyRoom room.old }
 
-    ensures written { IfOk result (λ r. (v : FirstValue) × IsRead v (S.state input.old).left (S.state input.new).left × Gains (K.state output.old).taken (first_map (words_shown words.now) v) (K.state output.new).taken × (report_shown r ≡ first_report (words_shown words.now) v)) }
-    ensures begun { result ≡ Err Fault.Write → (v : FirstValue) × IsBegun (words_shown words.now) v (S.state input.old).left (S.state input.new).left (K.state output.old).taken (K.state output.new).taken }
+    // The input was read, and its map was put, all of it or a front of it.
+    ensures written { IfOk result (λ r. (v : FirstValue) × IsRead v (S.state input.old) (S.state input.new)
+        × Gained (K.state output.old) (first_map (words_shown words.now) v) (K.state output.new)
+        × (report_shown r ≡ first_report (words_shown words.now) v)) }
+    ensures begun { result ≡ Err Fault.Write → (v : FirstValue) × IsRead v (S.state input.old) (S.state input.new)
+        × GainedFront (K.state output.old) (first_map (words_shown words.now) v) (K.state output.new) }
 
-    ensures read { result ≡ Err Fault.Read → HasRisen (S.state input.old).faults (S.state input.new).faults }
-    ensures write { result ≡ Err Fault.Write → HasRisen (K.state output.old).faults (K.state output.new).faults }
-    ensures other { result ≡ Err Fault.NotBuilt → (bytes : List ℕ) × IsOther bytes (S.state input.old).left (S.state input.new).left }
+    // Each fault has its cause.
+    ensures read { result ≡ Err Fault.Read → CountsOne (S.state input.old).faults (S.state input.new).faults }
+    ensures same_input { result ≢ Err Fault.Read → (S.state input.new).faults ≡ (S.state input.old).faults }
+    ensures write { result ≡ Err Fault.Write → CountsOne (K.state output.old).faults (K.state output.new).faults }
+    ensures same_output { result ≢ Err Fault.Write → (K.state output.new).faults ≡ (K.state output.old).faults }
+    ensures other { result ≡ Err Fault.NotBuilt → (bytes : List ℕ) × IsOther bytes (S.state input.old) (S.state input.new) }
     ensures never { result ≢ Err Fault.Memory }
 
-    ensures untouched { OnErr result ((result ≢ Err Fault.Write) → output.new ≡ output.old) }
+    ensures untouched { OnErr result (result ≢ Err Fault.Write → output.new ≡ output.old) }
     ensures line { room.new.line ≡ room.old.line }
 {
     read_input(&mut room.block, input)?;
@@ -74,9 +80,11 @@ pub(crate) fn make_map<S: Source, K: Sink>(
 // Reads all of an input that is not too long.
 fn read_input<S: Source>(block: &mut Block, input: &mut S) -> Result<(), Fault>
     requires { block.old.capacity ≡ first_limit + 1 }
-    ensures whole { OnOk result (Takes (S.state input.old).left block.new.bytes (S.state input.new).left × IsAtEnd (S.state input.new)) }
-    ensures long { result ≡ Err Fault.NotBuilt → Takes (S.state input.old).left block.new.bytes (S.state input.new).left × (first_limit < length block.new.bytes) }
+    ensures whole { OnOk result (Took (S.state input.old) block.new.bytes (S.state input.new) × IsAtEnd (S.state input.new)) }
+    ensures long { result ≡ Err Fault.NotBuilt
+        → Took (S.state input.old) block.new.bytes (S.state input.new) × (first_limit < length block.new.bytes) }
     ensures read { result ≡ Err Fault.Read → CountsOne (S.state input.old).faults (S.state input.new).faults }
+    ensures same { result ≢ Err Fault.Read → (S.state input.new).faults ≡ (S.state input.old).faults }
     ensures never { (result ≢ Err Fault.Write) × (result ≢ Err Fault.Memory) }
 {
     match Stream::new(input).fill(block, INPUT_LIMIT + 1) {
@@ -168,10 +176,11 @@ fn put_front(out: &mut OutBuf, words: &FirstWords, bounds: &Rect, size: usize)
 #[tactic(auto, using(mf_edge::proofs::Putting::putting))]
 fn write_map<K: Sink>(output: &mut K, front: &[u8], tile: &[u8]) -> Result<u64, Failed>
     requires few { length front.now + length tile.now < 2 ^ 63 }
-    ensures all { OnOk result (Gains (K.state output.old).taken (front.now ++ tile.now) (K.state output.new).taken) }
+    ensures all { OnOk result (Gained (K.state output.old) (front.now ++ tile.now) (K.state output.new)) }
     ensures size { IfOk result (λ n. n ≡ length (front.now ++ tile.now)) }
+    ensures same { OnOk result ((K.state output.new).faults ≡ (K.state output.old).faults) }
     ensures failed { OnErr result (CountsOne (K.state output.old).faults (K.state output.new).faults) }
-    ensures front { OnErr result (GainsFront (K.state output.old).taken (front.now ++ tile.now) (K.state output.new).taken) }
+    ensures front { OnErr result (GainedFront (K.state output.old) (front.now ++ tile.now) (K.state output.new)) }
 {
     put_all(output, front)?;
     put_all(output, tile)?;

@@ -1,7 +1,8 @@
 //! The statuses that a run ends with, and their texts.
 
-ghost use Rattle.std.specs.Prelude.{◌≡◌, ◌≤◌};
-ghost use Rattle.mfwrite.specs.FirstRun.{Says, status_text, refusal_status};
+ghost use Rattle.std.specs.Prelude.{◌≡◌};
+ghost use Rattle.mfwrite.specs.Run.{Says, status_text};
+ghost use Rattle.mfwrite.specs.FirstRun.{refusal_status};
 ghost use Rattle.mfwrite.specs.Shown.{fault_status};
 
 use crate::prepare::Refusal;
@@ -10,6 +11,18 @@ use mf_edge::{Sink, put_all};
 /// The map was written.
 pub(crate) const WRITTEN: u8 = 0;
 
+/// The input could not be read.
+pub(crate) const READ: u8 = 6;
+
+/// The output could not be written.
+pub(crate) const WRITE: u8 = 7;
+
+/// There is not enough memory.
+pub(crate) const MEMORY: u8 = 9;
+
+/// The words or the input are not of a form that can be run so far.
+pub(crate) const NOT_BUILT: u8 = 11;
+
 /// Why no map was written, or not all of it.
 #[derive(Clone, Copy, Debug, PartialEq, Eq)]
 pub(crate) enum Fault {
@@ -17,7 +30,7 @@ pub(crate) enum Fault {
     Read,
     /// The output could not be written.
     Write,
-    /// Memory is wanting.
+    /// There is not enough memory.
     Memory,
     /// The words or the input are not of a form that can be run so far.
     NotBuilt,
@@ -29,15 +42,15 @@ impl Fault {
         ensures { result ≡ fault_status self }
     {
         match self {
-            Fault::Read => 6,
-            Fault::Write => 7,
-            Fault::Memory => 9,
-            Fault::NotBuilt => 11,
+            Fault::Read => READ,
+            Fault::Write => WRITE,
+            Fault::Memory => MEMORY,
+            Fault::NotBuilt => NOT_BUILT,
         }
     }
 
     // What is said of it.
-    #[tactic(auto, unfolding(crate::specs::FirstRun::status_text))]
+    #[tactic(auto, unfolding(crate::specs::Run::status_text))]
     pub(crate) fn text(self) -> &'static [u8]
         ensures { result.now ≡ status_text (fault_status self) }
     {
@@ -61,9 +74,8 @@ pub(crate) fn fault_of(refusal: Refusal) -> Fault
 }
 
 /// Says a text. A failure changes nothing else.
-#[tactic(auto, using(mf_edge::proofs::Counting::counting))]
 pub(crate) fn say_text<E: Sink>(say: &mut E, text: &[u8])
-    ensures { Says text.now (E.state say.old).taken (E.state say.old).faults (E.state say.new).taken (E.state say.new).faults }
+    ensures { Says (E.state say.old) text.now (E.state say.new) }
 {
     let _ = put_all(say, text);
 }
