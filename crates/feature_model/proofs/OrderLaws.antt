@@ -7,7 +7,7 @@ use Rattle.std.proofs.lemmas.Option.{same_Some}
 use Rattle.mf_base.specs.declared.kind.EntityKind.{EntityKind}
 use Rattle.mf_base.proofs.Pairs.{EachPair, each_pair, all_pairs}
 use Rattle.osm_model.specs.Entities.{Entity, node, way, relation, kind_of, nodes_of, ways_of, relations_of}
-use Rattle.osm_model.specs.Order.{rank, key_of, Precedes, AreInOrder, IsRising}
+use Rattle.osm_model.specs.Order.{rank, kind_and_id, Precedes, AreInOrder, IsRising}
 use Rattle.feature_model.specs.Mapping.{Mapping}
 use Rattle.feature_model.specs.Choice.{Choice, choice}
 use Rattle.feature_model.specs.Points.{geometry_of}
@@ -32,11 +32,11 @@ relations-alone (way w ∷ es) behind = absurd (omega (arith, behind.0))
 relations-alone (relation r ∷ es) behind = let more = relations-alone es behind.1 in (more.0, more.1, ap (λ (es : List Entity). relation r ∷ es) more.2)
 
 -- what may stand behind an object
-behind : (least : ℕ) (e : Entity) (es : List Entity) → least ≤ rank (kind_of e) → AllByRecursion (λ later. Precedes (key_of e) (key_of later)) es → FromKind least es
-behind least e es here all = all-weaker (λ later. Precedes (key_of e) (key_of later)) (λ later. least ≤ rank (kind_of later)) es (λ later stands. omega (arith, here, stands.0)) all
+behind : (least : ℕ) (e : Entity) (es : List Entity) → least ≤ rank (kind_of e) → AllByRecursion (λ later. Precedes (kind_and_id e) (kind_and_id later)) es → FromKind least es
+behind least e es here all = all-weaker (λ later. Precedes (kind_and_id e) (kind_and_id later)) (λ later. least ≤ rank (kind_of later)) es (λ later stands. omega (arith, here, stands.0)) all
 
 -- behind a way there are ways, and then relations
-ways-first : (es : List Entity) → FromKind 1 es → InOrder key_of es → (nodes_of es ≡ []) × (map way (ways_of es) ++ map relation (relations_of es) ≡ es)
+ways-first : (es : List Entity) → FromKind 1 es → InOrder kind_and_id es → (nodes_of es ≡ []) × (map way (ways_of es) ++ map relation (relations_of es) ≡ es)
 ways-first [] from ordered = (refl, refl)
 ways-first (node n ∷ es) from ordered = absurd (omega (arith, from.0))
 ways-first (way w ∷ es) from ordered = let more = ways-first es from.1 ordered.1 in (more.0, ap (λ (es : List Entity). way w ∷ es) more.1)
@@ -44,7 +44,7 @@ ways-first (relation r ∷ es) from ordered =
     let more = relations-alone es (behind 2 (relation r) es (omega arith) ordered.0) in
     (more.0, ap (λ ws. map way ws ++ (relation r ∷ map relation (relations_of es))) more.1 ∙ ap (λ (es : List Entity). relation r ∷ es) more.2)
 
-by_kind-ordered : (es : List Entity) → InOrder key_of es → by_kind es ≡ es
+by_kind-ordered : (es : List Entity) → InOrder kind_and_id es → by_kind es ≡ es
 by_kind-ordered [] ordered = refl
 by_kind-ordered (node n ∷ es) ordered = ap (λ (es : List Entity). node n ∷ es) (by_kind-ordered es ordered.1)
 by_kind-ordered (way w ∷ es) ordered =
@@ -55,8 +55,8 @@ by_kind-ordered (relation r ∷ es) ordered =
     ap (λ ns. map node ns ++ map way (ways_of es) ++ (relation r ∷ map relation (relations_of es))) more.0
     ∙ ap (λ ws. map way ws ++ (relation r ∷ map relation (relations_of es))) more.1 ∙ ap (λ (es : List Entity). relation r ∷ es) more.2
 
-rising-ordered : (es : List Entity) → IsRising es → InOrder key_of es
-rising-ordered es rising = each_pair (λ a b. Precedes (key_of a) (key_of b)) es rising.1
+rising-ordered : (es : List Entity) → IsRising es → InOrder kind_and_id es
+rising-ordered es rising = each_pair (λ a b. Precedes (kind_and_id a) (kind_and_id b)) es rising.1
 
 pub candidates-ordered : (mapping : Mapping) (entities : List Entity) → IsRising entities → candidates mapping entities ≡ filter_map (candidate_of mapping entities) entities
 unfolding candidates
@@ -86,32 +86,32 @@ map-ordered tells tells_made f (x ∷ xs) same ordered = (
 )
 
 -- a description has the kind and the id of its object
-description-key : (mapping : Mapping) (e : Entity) (d : Description) → description mapping e ≡ Some d → key_of e ≡ (d.kind, d.id)
+description-key : (mapping : Mapping) (e : Entity) (d : Description) → description mapping e ≡ Some d → kind_and_id e ≡ (d.kind, d.id)
 unfolding description
 description-key mapping e d h = by_test (cases_Bool (may_be_shown e))
   where
-    by_choice : (o : Option Choice) → option_map (described e) o ≡ Some d → key_of e ≡ (d.kind, d.id)
+    by_choice : (o : Option Choice) → option_map (described e) o ≡ Some d → kind_and_id e ≡ (d.kind, d.id)
     by_choice None h = absurd (cc h)
     by_choice (Some chosen) h = ap (λ (d : Description). let key : EntityKind × ℕ = (d.kind, d.id) in key) (same_Some (described e chosen) d h)
 
-    by_test : (may_be_shown e ≡ true) ⊎ (may_be_shown e ≡ false) → key_of e ≡ (d.kind, d.id)
+    by_test : (may_be_shown e ≡ true) ⊎ (may_be_shown e ≡ false) → kind_and_id e ≡ (d.kind, d.id)
     by_test (inl good) = by_choice (choice (entries_for mapping (kind_of e)) (tags_of e)) (rw good at h)
     by_test (inr bad) = absurd (cc (rw bad at h))
 
-candidate-key : (mapping : Mapping) (entities : List Entity) (e : Entity) (c : Candidate) → candidate_of mapping entities e ≡ Some c → key_of e ≡ candidate_key c
+candidate-key : (mapping : Mapping) (entities : List Entity) (e : Entity) (c : Candidate) → candidate_of mapping entities e ≡ Some c → kind_and_id e ≡ candidate_key c
 candidate-key mapping entities e c h = by_description (description mapping e) refl h
   where
     with_geometry : Description → Candidate
     with_geometry d = record { description = d; geometry = geometry_of entities e }
 
-    by_description : (o : Option Description) → description mapping e ≡ o → option_map with_geometry o ≡ Some c → key_of e ≡ candidate_key c
+    by_description : (o : Option Description) → description mapping e ≡ o → option_map with_geometry o ≡ Some c → kind_and_id e ≡ candidate_key c
     by_description None same h = absurd (cc h)
     by_description (Some d) same h = description-key mapping e d same ∙ ap candidate_key (same_Some (with_geometry d) c h)
 
 candidates-in_order : (mapping : Mapping) (entities : List Entity) → IsRising entities → InOrder candidate_key (candidates mapping entities)
 candidates-in_order mapping entities rising =
     subst (InOrder candidate_key) (sym (candidates-ordered mapping entities rising))
-    (filter_map-ordered key_of candidate_key (candidate_of mapping entities) entities (λ e c h. candidate-key mapping entities e c h) (rising-ordered entities rising))
+    (filter_map-ordered kind_and_id candidate_key (candidate_of mapping entities) entities (λ e c h. candidate-key mapping entities e c h) (rising-ordered entities rising))
 
 pub candidates-rise : (mapping : Mapping) (entities : List Entity) → IsRising entities → AreInOrder candidate_key (candidates mapping entities)
 candidates-rise mapping entities rising = all_pairs (λ a b. Precedes (candidate_key a) (candidate_key b)) (candidates mapping entities) (candidates-in_order mapping entities rising)

@@ -8,10 +8,11 @@ use Rattle.mf_base.specs.Steps.{◌>>=◌, told_as}
 use Rattle.mf_base.specs.NumberReading.{varint_front}
 use Rattle.mf_base.proofs.StepLaws.{chosen, ok_is, err_is_no_ok, bind_ok, require_ok, told_ok}
 use Rattle.mf_base.proofs.NumberLemmas.{varint_reads, varint_found, IsFront}
-use Rattle.osm_model.specs.Wire.{Value, varint, i64, len, i32, Field, wire_type, key_of, SpellsValue, SpellsField, varint_fault, number_front, bytes_front, varint_value, len_value, value_front, field_front}
+use Rattle.osm_model.specs.declared.faults.WireFault.TheVariants as wire_faults
+use Rattle.osm_model.specs.Wire.{Value, varint, i64, len, i32, Field, wire_type, field_key, SpellsValue, SpellsField, number_front, bytes_front, varint_value, len_value, value_front, field_front}
 
 number_reads : (n : ℕ) (b rest : List ℕ) → IsVarint n b → number_front (b ++ rest) ≡ Ok (n, length b)
-number_reads n b rest v = ap (told_as (λ fault. varint_fault)) (varint_reads n b rest v)
+number_reads n b rest v = ap (told_as (λ fault. wire_faults.Varint)) (varint_reads n b rest v)
 
 bytes_read : (kind : List ℕ → Value) (count at : ℕ) (bytes : List ℕ) → at + count ≤ length bytes → bytes_front kind count at bytes ≡ Ok (kind (take count (drop at bytes)), at + count)
 bytes_read kind count at bytes fits = rw (le-leb (at + count) (length bytes) fits) refl
@@ -43,13 +44,13 @@ wire_type-lt (i32 bytes) = omega arith
 pub is_number : (n : ℕ) → 1 ≤ n → n < 2 ^ 29 → (nat_le 1 n && nat_lt n (2 ^ 29)) ≡ true
 is_number n least most = rw (le-leb 1 n least, lt-ltb n (2 ^ 29) most) refl
 
-front_number : (f : Field) → key_of f / 8 ≡ f.number
+front_number : (f : Field) → field_key f / 8 ≡ f.number
 front_number f = omega (arith, wire_type-lt f.value)
 
-front_type : (f : Field) → key_of f % 8 ≡ wire_type f.value
+front_type : (f : Field) → field_key f % 8 ≡ wire_type f.value
 front_type f = omega (arith, wire_type-lt f.value)
 
-pub field-ok : (bytes : List ℕ) (f : Field) (k n : ℕ) → number_front bytes ≡ Ok (key_of f, k) → 1 ≤ f.number → f.number < 2 ^ 29 → value_front (wire_type f.value) (drop k bytes) ≡ Ok (f.value, n) → field_front bytes ≡ Ok (f, k + n)
+pub field-ok : (bytes : List ℕ) (f : Field) (k n : ℕ) → number_front bytes ≡ Ok (field_key f, k) → 1 ≤ f.number → f.number < 2 ^ 29 → value_front (wire_type f.value) (drop k bytes) ≡ Ok (f.value, n) → field_front bytes ≡ Ok (f, k + n)
 unfolding field_front
 field-ok bytes f k n number least most value =
     rw number (rw (front_number f, front_type f) (rw (is_number f.number least most) (rw value refl)))
@@ -58,7 +59,7 @@ pub field_reads : (f : Field) (b rest : List ℕ) → SpellsField f b → field_
 field_reads f b rest h =
     let (key, value, keyed, valued, whole) = h.spelled in
     let parts : b ++ rest ≡ key ++ (value ++ rest) = ap (λ x. x ++ rest) whole ∙ append_assoc key value rest in
-    let number : number_front (b ++ rest) ≡ Ok (key_of f, length key) = ap number_front parts ∙ number_reads (key_of f) key (value ++ rest) keyed in
+    let number : number_front (b ++ rest) ≡ Ok (field_key f, length key) = ap number_front parts ∙ number_reads (field_key f) key (value ++ rest) keyed in
     let behind : drop (length key) (b ++ rest) ≡ value ++ rest = ap (drop (length key)) parts ∙ drop_at key (value ++ rest) (length key) refl in
     let read : value_front (wire_type f.value) (drop (length key) (b ++ rest)) ≡ Ok (f.value, length value) = ap (value_front (wire_type f.value)) behind ∙ value_reads f.value value rest valued in
     field-ok (b ++ rest) f (length key) (length value) number h.least h.most read ∙ ap (λ n. Ok (f, n)) (sym (ap length whole ∙ length-append key value))
@@ -76,7 +77,7 @@ record IsValueFront (type : ℕ) (v : Value) (size : ℕ) (bytes : List ℕ) : T
   spelled : SpellsValue v (take size bytes)
 
 number_found : (bytes : List ℕ) (n size : ℕ) → number_front bytes ≡ Ok (n, size) → IsFront n size bytes
-number_found bytes n size e = varint_found bytes n size (told_ok (λ fault. varint_fault) (varint_front bytes) (n, size) e)
+number_found bytes n size e = varint_found bytes n size (told_ok (λ fault. wire_faults.Varint) (varint_front bytes) (n, size) e)
 
 bytes_found : (kind : List ℕ → Value) (count at : ℕ) (bytes : List ℕ) (v : Value) (size : ℕ) → bytes_front kind count at bytes ≡ Ok (v, size) → (at + count ≤ length bytes) × (kind (take count (drop at bytes)) ≡ v) × (at + count ≡ size)
 bytes_found kind count at bytes v size e =

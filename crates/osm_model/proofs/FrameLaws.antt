@@ -12,9 +12,12 @@ use Rattle.mf_base.specs.Steps.{◌>>=◌}
 use Rattle.mf_base.proofs.StepLaws.{chosen, ok_is, bind_ok, require_ok, told_ok, ok_or_ok, refuse_ok, map_none}
 use Rattle.mf_base.proofs.ByteLaws.{take-bytes, length-big_endian}
 use Rattle.mf_base.proofs.BigBytes.{big_bytes-big_number}
+use Rattle.osm_model.specs.declared.limits.TheConstants.{HEADER_LIMIT, BLOB_LIMIT, OFFSET_LIMIT}
+use Rattle.osm_model.specs.declared.tables.TheConstants.{BLOB_HEADER, BLOB}
+use Rattle.osm_model.specs.declared.faults.FrameFault.TheVariants as frame_faults
 use Rattle.osm_model.specs.Wire.{Field, IsMessage}
-use Rattle.osm_model.specs.Tables.{FitsTable, message, blob_header, blob, once_of, number_of}
-use Rattle.osm_model.specs.Frames.{Content, header, primitive, unread, type_of, header_limit, blob_limit, offset_limit, IsBlobHeader, IsBlob, HoldsContent, SpellsFrame, header_wire, blob_wire, no_type, no_size, compressed, no_data, raw_size, whole_part, raw_size_fault, raw_bytes, content_in, frame_front}
+use Rattle.osm_model.specs.Tables.{FitsTable, message, once_of, number_of}
+use Rattle.osm_model.specs.Frames.{Content, header, primitive, unread, type_of, IsBlobHeader, IsBlob, HoldsContent, SpellsFrame, whole_part, raw_size_fault, raw_bytes, content_in, frame_front}
 use Rattle.osm_model.proofs.TableMessageLaws.{message_is, message_found}
 use Rattle.osm_model.proofs.TableLaws.{some_no_none}
 
@@ -22,20 +25,20 @@ use Rattle.osm_model.proofs.TableLaws.{some_no_none}
 
 size_none : (o : Option ℕ) (found : ℕ) → MatchOption o (Unit {0}) (λ size. size ≡ found) → raw_size_fault o found ≡ None
 size_none None found h = refl
-size_none (Some told) found h = ap (λ b. cond b None (Some (raw_size told found))) (eq-eqb told found h)
+size_none (Some told) found h = ap (λ b. cond b None (Some (frame_faults.RawSize told found))) (eq-eqb told found h)
 
 none_size : (o : Option ℕ) (found : ℕ) → raw_size_fault o found ≡ None → MatchOption o (Unit {0}) (λ size. size ≡ found)
 none_size None found e = tt
 none_size (Some told) found e =
     elim (cases_Bool (told == found)) [
       | inl same ↦ eqb-true told found same
-      | inr wrong ↦ absurd (some_no_none (raw_size told found) (ap (λ b. cond b None (Some (raw_size told found))) (sym wrong) ∙ e))
+      | inr wrong ↦ absurd (some_no_none (frame_faults.RawSize told found) (ap (λ b. cond b None (Some (frame_faults.RawSize told found))) (sym wrong) ∙ e))
     ]
 
 pub raw_is : (raw b : List ℕ) → IsBlob raw b → raw_bytes b ≡ Ok raw
 unfolding raw_bytes
 raw_is raw b h =
-    rw (message_is blob b h.parts h.spelled h.fits) (rw h.plain (rw h.held (rw (size_none (number_of 2 h.parts) (length raw) h.told) refl)))
+    rw (message_is BLOB b h.fields h.spelled h.fits) (rw h.plain (rw h.held (rw (size_none (number_of 2 h.fields) (length raw) h.told) refl)))
 
 pub raw_found : (raw b : List ℕ) → raw_bytes b ≡ Ok raw → IsBlob raw b
 unfolding raw_bytes
@@ -45,19 +48,19 @@ raw_found raw b e =
     let (found, held, behind_held) = bind_ok _ _ _ behind_plain in
     let (v, told, last) = bind_ok _ _ _ behind_held in
     let same = ok_is _ _ last in
-    let is = message_found blob b parts (told_ok blob_wire (message blob b) parts read) in
-    let found_is : IsBlob found b = record { parts = parts; spelled = is.0; fits = is.1; plain = map_none compressed _ (refuse_ok _ u plain); held = ok_or_ok _ no_data found held; told = none_size _ _ (refuse_ok _ v told) } in
+    let is = message_found BLOB b parts (told_ok frame_faults.BlobWire (message BLOB b) parts read) in
+    let found_is : IsBlob found b = record { fields = parts; spelled = is.0; fits = is.1; plain = map_none frame_faults.Compressed _ (refuse_ok _ u plain); held = ok_or_ok _ frame_faults.NoBytes found held; told = none_size _ _ (refuse_ok _ v told) } in
     subst (λ r. IsBlob r b) same found_is
 
 -- ---- the whole blob
 
 frame-ok : (at : ℕ) (bytes size head : List ℕ) (n : ℕ) (parts : List Field) (kind : List ℕ) (m : ℕ) (body : List ℕ) (c : Content)
-    → at < offset_limit → whole_part 4 bytes ≡ Ok size → big_number 4 size ≡ n → n ≤ header_limit → whole_part n (drop 4 bytes) ≡ Ok head
-    → message blob_header head ≡ Ok parts → once_of 1 parts ≡ Some kind → number_of 3 parts ≡ Some m → m ≤ blob_limit
+    → at < OFFSET_LIMIT → whole_part 4 bytes ≡ Ok size → big_number 4 size ≡ n → n ≤ HEADER_LIMIT → whole_part n (drop 4 bytes) ≡ Ok head
+    → message BLOB_HEADER head ≡ Ok parts → once_of 1 parts ≡ Some kind → number_of 3 parts ≡ Some m → m ≤ BLOB_LIMIT
     → whole_part m (drop (4 + n) bytes) ≡ Ok body → content_in kind body ≡ Ok c → frame_front at bytes ≡ Ok (c, 4 + n + m)
 unfolding frame_front
 frame-ok at bytes size head n parts kind m body c near sized number small headed read named told few bodied held =
-    rw (lt-ltb at offset_limit near) (rw sized (rw number (rw (le-leb n header_limit small) (rw headed (rw read (rw named (rw told (rw (le-leb m blob_limit few) (rw bodied (rw held refl))))))))))
+    rw (lt-ltb at OFFSET_LIMIT near) (rw sized (rw number (rw (le-leb n HEADER_LIMIT small) (rw headed (rw read (rw named (rw told (rw (le-leb m BLOB_LIMIT few) (rw bodied (rw held refl))))))))))
 
 -- a part that stands in front
 pub part-ok : (p q : List ℕ) (n : ℕ) → length p ≡ n → whole_part n (p ++ q) ≡ Ok p
@@ -93,11 +96,11 @@ content_found kind b c e =
           ]
     ]
 
-number-big_endian : (n : ℕ) → n ≤ header_limit → big_number 4 (big_endian 4 n) ≡ n
+number-big_endian : (n : ℕ) → n ≤ HEADER_LIMIT → big_number 4 (big_endian 4 n) ≡ n
 unfolding big_endian
 number-big_endian n small = subst (λ b. big_number 4 b ≡ n) (append-nil (big_bytes 4 n)) (big_number-reads_back 4 n [] (omega (arith, small)))
 
-pub frame_reads : (at : ℕ) (c : Content) (b rest : List ℕ) → at < offset_limit → SpellsFrame c b → frame_front at (b ++ rest) ≡ Ok (c, length b)
+pub frame_reads : (at : ℕ) (c : Content) (b rest : List ℕ) → at < OFFSET_LIMIT → SpellsFrame c b → frame_front at (b ++ rest) ≡ Ok (c, length b)
 frame_reads at c b rest near h =
     let four = length-big_endian 4 (length h.head) in
     let parts : b ++ rest ≡ big_endian 4 (length h.head) ++ (h.head ++ (h.body ++ rest)) =
@@ -110,13 +113,13 @@ frame_reads at c b rest near h =
     let bodied = ap (whole_part (length h.body)) behind_head ∙ part-ok h.body rest (length h.body) refl in
     let holds = h.head_holds in
     let count : length b ≡ 4 + length h.head + length h.body = ap length h.whole ∙ length-append (big_endian 4 (length h.head) ++ h.head) h.body ∙ ap (λ n. n + length h.body) front in
-    frame-ok at (b ++ rest) (big_endian 4 (length h.head)) h.head (length h.head) holds.parts (type_of c) (length h.body) h.body c near sized (number-big_endian (length h.head) h.head_size) h.head_size headed
-    (message_is blob_header h.head holds.parts holds.spelled holds.fits) holds.named holds.sized h.body_size bodied (content_is c h.body h.body_holds)
+    frame-ok at (b ++ rest) (big_endian 4 (length h.head)) h.head (length h.head) holds.fields (type_of c) (length h.body) h.body c near sized (number-big_endian (length h.head) h.head_size) h.head_size headed
+    (message_is BLOB_HEADER h.head holds.fields holds.spelled holds.fits) holds.named holds.sized h.body_size bodied (content_is c h.body h.body_holds)
     ∙ ap (λ n. Ok (c, n)) (sym count)
 
 -- what a blob that was found is
 pub record IsFrameFront (at : ℕ) (c : Content) (size : ℕ) (bytes : List ℕ) : Type 0 where
-  pub near : at < offset_limit
+  pub near : at < OFFSET_LIMIT
   pub some : 0 < size
   pub within : size ≤ length bytes
   pub spelled : SpellsFrame c (take size bytes)
@@ -142,20 +145,20 @@ parts_whole bytes four head body n m small number fits first fits_head second th
 length_taken : (n : ℕ) (bytes p : List ℕ) → n ≤ length bytes → take n bytes ≡ p → length p ≡ n
 length_taken n bytes p fits e = ap length (sym e) ∙ length-take-le n bytes fits
 
-frame_from : (at : ℕ) (bytes four head body kind : List ℕ) (n m : ℕ) (parts : List Field) (c : Content) → IsBytes bytes → at < offset_limit → big_number 4 four ≡ n
-    → (4 ≤ length bytes) × (take 4 bytes ≡ four) → n ≤ header_limit → (n ≤ length (drop 4 bytes)) × (take n (drop 4 bytes) ≡ head)
-    → IsMessage head parts × FitsTable blob_header parts → once_of 1 parts ≡ Some kind → number_of 3 parts ≡ Some m → m ≤ blob_limit
+frame_from : (at : ℕ) (bytes four head body kind : List ℕ) (n m : ℕ) (parts : List Field) (c : Content) → IsBytes bytes → at < OFFSET_LIMIT → big_number 4 four ≡ n
+    → (4 ≤ length bytes) × (take 4 bytes ≡ four) → n ≤ HEADER_LIMIT → (n ≤ length (drop 4 bytes)) × (take n (drop 4 bytes) ≡ head)
+    → IsMessage head parts × FitsTable BLOB_HEADER parts → once_of 1 parts ≡ Some kind → number_of 3 parts ≡ Some m → m ≤ BLOB_LIMIT
     → (m ≤ length (drop (4 + n) bytes)) × (take m (drop (4 + n) bytes) ≡ body) → (type_of c ≡ kind) × HoldsContent c body → IsFrameFront at c (4 + n + m) bytes
 frame_from at bytes four head body kind n m parts c small near number first few second read named told most third holds =
     let head_len = length_taken n (drop 4 bytes) head second.0 second.1 in
     let body_len = length_taken m (drop (4 + n) bytes) body third.0 third.1 in
     let whole = parts_whole bytes four head body n m small number first.0 first.1 second.0 second.1 third.1 in
-    let head_is : IsBlobHeader (type_of c) (length body) head = record { parts = parts; spelled = read.0; fits = read.1; named = named ∙ ap Some (sym holds.0); sized = told ∙ ap Some (sym body_len) } in
+    let head_is : IsBlobHeader (type_of c) (length body) head = record { fields = parts; spelled = read.0; fits = read.1; named = named ∙ ap Some (sym holds.0); sized = told ∙ ap Some (sym body_len) } in
     record {
       near = near;
       some = positive n m;
       within = fits_within bytes n m first.0 second.0 third.0;
-      spelled = record { head = head; body = body; whole = whole; head_size = subst (λ k. k ≤ header_limit) (sym head_len) few; body_size = subst (λ k. k ≤ blob_limit) (sym body_len) most; head_holds = head_is; body_holds = holds.1 };
+      spelled = record { head = head; body = body; whole = whole; head_size = subst (λ k. k ≤ HEADER_LIMIT) (sym head_len) few; body_size = subst (λ k. k ≤ BLOB_LIMIT) (sym body_len) most; head_holds = head_is; body_holds = holds.1 };
     }
 
 pub frame_found : (at : ℕ) (bytes : List ℕ) (c : Content) (size : ℕ) → IsBytes bytes → frame_front at bytes ≡ Ok (c, size) → IsFrameFront at c size bytes
@@ -174,8 +177,8 @@ frame_found at bytes c size small e =
     let pair = ok_is _ _ last in
     let found : IsFrameFront at content (4 + big_number 4 four + m) bytes =
     frame_from at bytes four head body kind (big_number 4 four) m parts content small (ltb-true _ _ (require_ok _ _ u near)) refl (part_found 4 bytes four sized)
-    (leb-true _ _ (require_ok _ _ v few)) (part_found (big_number 4 four) (drop 4 bytes) head headed) (message_found blob_header head parts (told_ok header_wire (message blob_header head) parts read))
-    (ok_or_ok _ no_type kind named) (ok_or_ok _ no_size m told) (leb-true _ _ (require_ok _ _ w most)) (part_found m (drop (4 + big_number 4 four) bytes) body bodied) (content_found kind body content held) in
+    (leb-true _ _ (require_ok _ _ v few)) (part_found (big_number 4 four) (drop 4 bytes) head headed) (message_found BLOB_HEADER head parts (told_ok frame_faults.HeaderWire (message BLOB_HEADER head) parts read))
+    (ok_or_ok _ frame_faults.NoKind kind named) (ok_or_ok _ frame_faults.NoSize m told) (leb-true _ _ (require_ok _ _ w most)) (part_found m (drop (4 + big_number 4 four) bytes) body bodied) (content_found kind body content held) in
     subst (λ x. IsFrameFront at x size bytes) (ap (λ p. p.0) pair) (subst (λ k. IsFrameFront at content k bytes) (ap (λ p. p.1) pair) found)
 
 -- a blob takes at least four bytes

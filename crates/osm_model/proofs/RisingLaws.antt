@@ -9,18 +9,20 @@ use Rattle.mf_base.proofs.Pairs.{EachPair, each_pair, all_pairs}
 use Rattle.mf_base.specs.Steps.{refuse}
 use Rattle.mf_base.proofs.StepLaws.{bind_ok, refuse_ok, chosen}
 use Rattle.mf_base.specs.declared.kind.EntityKind.TheVariants as kinds
+use Rattle.osm_model.specs.declared.faults.EntityFault.{EntityFault}
+use Rattle.osm_model.specs.declared.faults.EntityFault.TheVariants as entity_faults
 use Rattle.osm_model.specs.Reading.{Reading}
 use Rattle.osm_model.specs.Blocks.{PrimitiveBlock}
-use Rattle.osm_model.specs.Objects.{EntityFault, Object, block_objects, kind_order, out_of_order}
+use Rattle.osm_model.specs.Objects.{Object, block_objects}
 use Rattle.osm_model.specs.Entities.{Entity, kind_of, id_of}
-use Rattle.osm_model.specs.Order.{rank, has_later_kind, ids_of, last_id, order_fault, placed, in_order, key_of, Precedes, IsRising}
+use Rattle.osm_model.specs.Order.{rank, has_later_kind, ids_of, last_id, order_fault, entity_behind, in_order, kind_and_id, Precedes, IsRising}
 use Rattle.osm_model.proofs.TableLaws.{some_no_none}
 use Rattle.osm_model.proofs.OrderLaws.{in_order-nil, in_order-err, in_order-refused, in_order-next}
 use Rattle.osm_model.proofs.TellingLaws.{Consistent, AllTell, block_tell}
 
 -- the first object may stand before the second
 abbrev Before : Entity → Entity → Type 0
-Before d e = Precedes (key_of d) (key_of e)
+Before d e = Precedes (kind_and_id d) (kind_and_id e)
 
 -- each id is above 0, and each object may stand before all that follow: by recursion on the list
 abbrev Rises : List Entity → Type 0
@@ -112,11 +114,11 @@ below_last kind n es rising h = (all_below kind n es None rising (above_none kin
 
 order_parts : (before : List Entity) (kind : EntityKind) (id : ℤ) → order_fault before kind id ≡ None → (has_later_kind kind before ≡ false) × (last_id kind before < nat_abs id)
 order_parts before kind id e =
-    elim (chosen (has_later_kind kind before) (Some kind_order) (cond (int_le id (pos (last_id kind before))) (Some (out_of_order (last_id kind before) id)) None) None e) [
-      | inl back ↦ absurd (some_no_none kind_order back.1)
+    elim (chosen (has_later_kind kind before) (Some entity_faults.KindOrder) (cond (int_le id (pos (last_id kind before))) (Some (entity_faults.OutOfOrder (last_id kind before) id)) None) None e) [
+      | inl back ↦ absurd (some_no_none entity_faults.KindOrder back.1)
       | inr on ↦
-          elim (chosen (int_le id (pos (last_id kind before))) (Some (out_of_order (last_id kind before) id)) None None on.1) [
-            | inl low ↦ absurd (some_no_none (out_of_order (last_id kind before) id) low.1)
+          elim (chosen (int_le id (pos (last_id kind before))) (Some (entity_faults.OutOfOrder (last_id kind before) id)) None None on.1) [
+            | inl low ↦ absurd (some_no_none (entity_faults.OutOfOrder (last_id kind before) id) low.1)
             | inr above ↦ (on.0, below_id id (last_id kind before) above.0)
           ]
     ]
@@ -134,7 +136,7 @@ rising_with : (es : List Entity) (e : Entity) → Rises es → 0 < id_of e → A
 rising_with [] e rising some h = (some, tt, tt)
 rising_with (d ∷ ds) e rising some h = (rising.0, all_with (Before d) ds e rising.1 h.0, rising_with ds e rising.2 some h.1)
 
-placed_rises : (before : List Entity) (object : Object) (e : Entity) → Rises before → Consistent object → placed before object ≡ Ok e → Rises (before ++ e ∷ [])
+placed_rises : (before : List Entity) (object : Object) (e : Entity) → Rises before → Consistent object → entity_behind before object ≡ Ok e → Rises (before ++ e ∷ [])
 placed_rises before object e rising told h =
     let (u, tested, rest) = bind_ok (refuse (order_fault before object.kind object.id)) (λ v. object.entity) e h in
     let parts = order_parts before object.kind object.id (refuse_ok (order_fault before object.kind object.id) u tested) in
@@ -146,9 +148,9 @@ placed_rises before object e rising told h =
 pub in_order-rises : (objects : List (Result Object EntityFault)) (before : List Entity) → Rises before → AllTell objects → Rises (before ++ (in_order before objects).items)
 in_order-rises [] before rising h = subst (λ (r : Reading Entity EntityFault). Rises (before ++ r.items)) (sym (in_order-nil before)) (subst Rises (sym (append-nil before)) rising)
 in_order-rises (Err fault ∷ others) before rising h = subst (λ (r : Reading Entity EntityFault). Rises (before ++ r.items)) (sym (in_order-err before fault others)) (subst Rises (sym (append-nil before)) rising)
-in_order-rises (Ok object ∷ others) before rising h = go (λ o k. in_order-rises others o k h.1) (placed before object) refl
+in_order-rises (Ok object ∷ others) before rising h = go (λ o k. in_order-rises others o k h.1) (entity_behind before object) refl
   where
-    go : ((o : List Entity) → Rises o → Rises (o ++ (in_order o others).items)) → (r : Result Entity EntityFault) → placed before object ≡ r → Rises (before ++ (in_order before (Ok object ∷ others)).items)
+    go : ((o : List Entity) → Rises o → Rises (o ++ (in_order o others).items)) → (r : Result Entity EntityFault) → entity_behind before object ≡ r → Rises (before ++ (in_order before (Ok object ∷ others)).items)
     go later (Err fault) e = subst (λ (r : Reading Entity EntityFault). Rises (before ++ r.items)) (sym (in_order-refused before object others fault e)) (subst Rises (sym (append-nil before)) rising)
     go later (Ok entity) e =
         let more : List Entity = (in_order (before ++ entity ∷ []) others).items in

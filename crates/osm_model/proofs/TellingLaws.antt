@@ -8,10 +8,14 @@ use Rattle.mf_base.specs.Ranges.{is_signed_64}
 use Rattle.mf_base.specs.Tags.{Tag}
 use Rattle.mf_base.proofs.StepLaws.{bind_ok, ok_is, err_is_no_ok}
 use Rattle.mf_base.specs.declared.kind.EntityKind.TheVariants as kinds
+use Rattle.osm_model.specs.declared.tables.TheConstants.{NODE, DENSE_NODES, WAY, RELATION}
+use Rattle.osm_model.specs.declared.faults.MessageFault.{MessageFault}
+use Rattle.osm_model.specs.declared.faults.EntityFault.{EntityFault}
+use Rattle.osm_model.specs.declared.faults.EntityFault.TheVariants as entity_faults
 use Rattle.osm_model.specs.Wire.{Field}
-use Rattle.osm_model.specs.Tables.{message, dense_nodes, node_table, way_table, relation_table, MessageFault, counted_bytes, packed_of, signed_of}
+use Rattle.osm_model.specs.Tables.{message, counted_bytes, packed_of, packed_sint64_of}
 use Rattle.osm_model.specs.Blocks.{BlockHead, PrimitiveBlock, is_coordinate, place_of}
-use Rattle.osm_model.specs.Objects.{signed, int64_id, coordinate, range, columns, wire, with_list, empty_run, indexed_tags, run_tags, column, members_of, runs_of, zip_three, EntityFault, Object, TagRun, node_of, node_object, dense_node, with_runs, dense_columns, dense_objects, way_of, way_object, relation_of, relation_object, objects_at, field_objects, group_fields, group_objects, block_objects}
+use Rattle.osm_model.specs.Objects.{sint64_at, int64_at, with_list, empty_run, indexed_tags, run_tags, running_sums, members_of, runs_of, zip_three, Object, TagRun, node_of, node_object, dense_node, with_runs, dense_columns, dense_objects, way_of, way_object, relation_of, relation_object, objects_at, field_objects, group_fields, group_objects, block_objects}
 use Rattle.osm_model.specs.Entities.{Member, Entity, node, way, relation, kind_of, id_of}
 
 -- what an object is has its kind and its id
@@ -29,15 +33,15 @@ found_node head id lat lon tags = node (record { id = nat_abs id; place = place_
 
 node_is : (head : BlockHead) (id lat lon : ℤ) (told : Result (List Tag) EntityFault) → IsItself kinds.Node id (node_of head id lat lon told)
 node_is head id lat lon (Ok tags) e h =
-    let (u, tested, last) = bind_ok (require (is_coordinate head lat lon) coordinate) (λ v. Ok (found_node head id lat lon tags)) e h in
+    let (u, tested, last) = bind_ok (require (is_coordinate head lat lon) entity_faults.Coordinate) (λ v. Ok (found_node head id lat lon tags)) e h in
     let P : Entity → Type 0 = λ x. (kind_of x ≡ kinds.Node) × (id_of x ≡ nat_abs id) in
     subst P (ok_is (found_node head id lat lon tags) e last) (refl, refl)
-node_is head id lat lon (Err fault) e h = let (u, tested, last) = bind_ok (require (is_coordinate head lat lon) coordinate) (λ v. Err fault) e h in absurd (err_is_no_ok fault e last)
+node_is head id lat lon (Err fault) e h = let (u, tested, last) = bind_ok (require (is_coordinate head lat lon) entity_faults.Coordinate) (λ v. Err fault) e h in absurd (err_is_no_ok fault e last)
 
 way_is : (id : ℤ) (refs : List ℤ) (told : Result (List Tag) EntityFault) → IsItself kinds.Way id (way_of id refs told)
 way_is id refs (Ok tags) e h =
     let found : Entity = way (record { id = nat_abs id; refs = refs; tags = tags }) in
-    let (u, tested, last) = bind_ok (require (list_all is_signed_64 refs) range) (λ v. Ok found) e h in
+    let (u, tested, last) = bind_ok (require (list_all is_signed_64 refs) entity_faults.Range) (λ v. Ok found) e h in
     let P : Entity → Type 0 = λ x. (kind_of x ≡ kinds.Way) × (id_of x ≡ nat_abs id) in
     subst P (ok_is found e last) (refl, refl)
 way_is id refs (Err fault) e h = absurd (err_is_no_ok fault e h)
@@ -59,38 +63,38 @@ node_at b parts id lat lon = record { kind = kinds.Node; id = id; entity = node_
 node_tells : (b : PrimitiveBlock) (bytes : List ℕ) → Tells (node_object b bytes)
 unfolding node_object
 node_tells b bytes object h =
-    let (parts, read, r1) = bind_ok (told_as wire (message node_table bytes)) (λ p. signed 1 p >>= λ id. signed 8 p >>= λ lat. signed 9 p >>= λ lon. Ok (node_at b p id lat lon)) object h in
-    let (id, has_id, r2) = bind_ok (signed 1 parts) (λ i. signed 8 parts >>= λ lat. signed 9 parts >>= λ lon. Ok (node_at b parts i lat lon)) object r1 in
-    let (lat, has_lat, r3) = bind_ok (signed 8 parts) (λ y. signed 9 parts >>= λ lon. Ok (node_at b parts id y lon)) object r2 in
-    let (lon, has_lon, last) = bind_ok (signed 9 parts) (λ x. Ok (node_at b parts id lat x)) object r3 in
+    let (parts, read, r1) = bind_ok (told_as entity_faults.Wire (message NODE bytes)) (λ p. sint64_at 1 p >>= λ id. sint64_at 8 p >>= λ lat. sint64_at 9 p >>= λ lon. Ok (node_at b p id lat lon)) object h in
+    let (id, has_id, r2) = bind_ok (sint64_at 1 parts) (λ i. sint64_at 8 parts >>= λ lat. sint64_at 9 parts >>= λ lon. Ok (node_at b parts i lat lon)) object r1 in
+    let (lat, has_lat, r3) = bind_ok (sint64_at 8 parts) (λ y. sint64_at 9 parts >>= λ lon. Ok (node_at b parts id y lon)) object r2 in
+    let (lon, has_lon, last) = bind_ok (sint64_at 9 parts) (λ x. Ok (node_at b parts id lat x)) object r3 in
     subst Consistent {x = node_at b parts id lat lon} (ok_is (node_at b parts id lat lon) object last) (node_is b.head id lat lon (indexed_tags b.strings (packed_of 2 parts) (packed_of 3 parts)))
 
 abbrev way_at : PrimitiveBlock → List Field → ℤ → Object
-way_at b parts id = record { kind = kinds.Way; id = id; entity = way_of id (column (signed_of 8 parts)) (indexed_tags b.strings (packed_of 2 parts) (packed_of 3 parts)) }
+way_at b parts id = record { kind = kinds.Way; id = id; entity = way_of id (running_sums (packed_sint64_of 8 parts)) (indexed_tags b.strings (packed_of 2 parts) (packed_of 3 parts)) }
 
 way_tells : (b : PrimitiveBlock) (bytes : List ℕ) → Tells (way_object b bytes)
 unfolding way_object
 way_tells b bytes object h =
-    let (parts, read, r1) = bind_ok (told_as wire (message way_table bytes)) (λ p. int64_id p >>= λ id. Ok (way_at b p id)) object h in
-    let (id, has_id, last) = bind_ok (int64_id parts) (λ i. Ok (way_at b parts i)) object r1 in
-    subst Consistent (ok_is (way_at b parts id) object last) (way_is id (column (signed_of 8 parts)) (indexed_tags b.strings (packed_of 2 parts) (packed_of 3 parts)))
+    let (parts, read, r1) = bind_ok (told_as entity_faults.Wire (message WAY bytes)) (λ p. int64_at 1 p >>= λ id. Ok (way_at b p id)) object h in
+    let (id, has_id, last) = bind_ok (int64_at 1 parts) (λ i. Ok (way_at b parts i)) object r1 in
+    subst Consistent (ok_is (way_at b parts id) object last) (way_is id (running_sums (packed_sint64_of 8 parts)) (indexed_tags b.strings (packed_of 2 parts) (packed_of 3 parts)))
 
 abbrev relation_at : PrimitiveBlock → List Field → ℤ → Object
-relation_at b parts id = record { kind = kinds.Relation; id = id; entity = relation_of id (members_of b.strings (packed_of 8 parts) (signed_of 9 parts) (packed_of 10 parts)) (indexed_tags b.strings (packed_of 2 parts) (packed_of 3 parts)) }
+relation_at b parts id = record { kind = kinds.Relation; id = id; entity = relation_of id (members_of b.strings (packed_of 8 parts) (packed_sint64_of 9 parts) (packed_of 10 parts)) (indexed_tags b.strings (packed_of 2 parts) (packed_of 3 parts)) }
 
 relation_tells : (b : PrimitiveBlock) (bytes : List ℕ) → Tells (relation_object b bytes)
 unfolding relation_object
 relation_tells b bytes object h =
-    let (parts, read, r1) = bind_ok (told_as wire (message relation_table bytes)) (λ p. int64_id p >>= λ id. Ok (relation_at b p id)) object h in
-    let (id, has_id, last) = bind_ok (int64_id parts) (λ i. Ok (relation_at b parts i)) object r1 in
-    subst Consistent (ok_is (relation_at b parts id) object last) (relation_is id (members_of b.strings (packed_of 8 parts) (signed_of 9 parts) (packed_of 10 parts)) (indexed_tags b.strings (packed_of 2 parts) (packed_of 3 parts)))
+    let (parts, read, r1) = bind_ok (told_as entity_faults.Wire (message RELATION bytes)) (λ p. int64_at 1 p >>= λ id. Ok (relation_at b p id)) object h in
+    let (id, has_id, last) = bind_ok (int64_at 1 parts) (λ i. Ok (relation_at b parts i)) object r1 in
+    subst Consistent (ok_is (relation_at b parts id) object last) (relation_is id (members_of b.strings (packed_of 8 parts) (packed_sint64_of 9 parts) (packed_of 10 parts)) (indexed_tags b.strings (packed_of 2 parts) (packed_of 3 parts)))
 
 abbrev dense_at : PrimitiveBlock → ℤ → ℤ → ℤ → TagRun → Object
 dense_at b id lat lon run = record { kind = kinds.Node; id = id; entity = node_of b.head id lat lon (run_tags b.strings run) }
 
 dense_tells : (b : PrimitiveBlock) (n : ℤ × ℤ × ℤ) (run : TagRun) → Tells (dense_node b n run)
 dense_tells b (id, lat, lon) run object h =
-    let (u, tested, last) = bind_ok (require (is_signed_64 id && is_signed_64 lat && is_signed_64 lon) range) (λ v. Ok (dense_at b id lat lon run)) object h in
+    let (u, tested, last) = bind_ok (require (is_signed_64 id && is_signed_64 lat && is_signed_64 lon) entity_faults.Range) (λ v. Ok (dense_at b id lat lon run)) object h in
     subst Consistent (ok_is (dense_at b id lat lon run) object last) (node_is b.head id lat lon (run_tags b.strings run))
 
 abbrev pub AllTell : List (Result Object EntityFault) → Type 0
@@ -99,7 +103,7 @@ AllTell objects = AllByRecursion Tells objects
 with_runs_tell : (b : PrimitiveBlock) (ns : List (ℤ × ℤ × ℤ)) (runs : List TagRun) → AllTell (with_runs b ns runs)
 unfolding with_runs
 with_runs_tell b [] [] = tt
-with_runs_tell b [] (run ∷ runs) = (tells_err columns, tt)
+with_runs_tell b [] (run ∷ runs) = (tells_err entity_faults.Columns, tt)
 with_runs_tell b (n ∷ ns) [] = (dense_tells b n (empty_run with_list), with_runs_tell b ns [])
 with_runs_tell b (n ∷ ns) (run ∷ runs) = (dense_tells b n run, with_runs_tell b ns runs)
 
@@ -110,19 +114,19 @@ either false xs ys h k = k
 columns_tell : (b : PrimitiveBlock) (ids lats lons : List ℤ) (keys_vals : List ℕ) → AllTell (dense_columns b ids lats lons keys_vals)
 unfolding dense_columns
 columns_tell b ids lats lons keys_vals =
-    either ((length ids == length lats) && (length ids == length lons)) (with_runs b (zip_three (column ids) (column lats) (column lons)) (runs_of (length ids) keys_vals)) (Err columns ∷ [])
-    (with_runs_tell b (zip_three (column ids) (column lats) (column lons)) (runs_of (length ids) keys_vals)) (tells_err columns, tt)
+    either ((length ids == length lats) && (length ids == length lons)) (with_runs b (zip_three (running_sums ids) (running_sums lats) (running_sums lons)) (runs_of (length ids) keys_vals)) (Err entity_faults.Columns ∷ [])
+    (with_runs_tell b (zip_three (running_sums ids) (running_sums lats) (running_sums lons)) (runs_of (length ids) keys_vals)) (tells_err entity_faults.Columns, tt)
 
 abbrev dense_parts : PrimitiveBlock → Result (List Field) MessageFault → List (Result Object EntityFault)
-dense_parts b r = elim r [ Ok parts ↦ dense_columns b (signed_of 1 parts) (signed_of 8 parts) (signed_of 9 parts) (packed_of 10 parts) | Err fault ↦ Err (wire fault) ∷ [] ]
+dense_parts b r = elim r [ Ok parts ↦ dense_columns b (packed_sint64_of 1 parts) (packed_sint64_of 8 parts) (packed_sint64_of 9 parts) (packed_of 10 parts) | Err fault ↦ Err (entity_faults.Wire fault) ∷ [] ]
 
 dense_parts_tell : (b : PrimitiveBlock) (r : Result (List Field) MessageFault) → AllTell (dense_parts b r)
-dense_parts_tell b (Ok parts) = columns_tell b (signed_of 1 parts) (signed_of 8 parts) (signed_of 9 parts) (packed_of 10 parts)
-dense_parts_tell b (Err fault) = (tells_err (wire fault), tt)
+dense_parts_tell b (Ok parts) = columns_tell b (packed_sint64_of 1 parts) (packed_sint64_of 8 parts) (packed_sint64_of 9 parts) (packed_of 10 parts)
+dense_parts_tell b (Err fault) = (tells_err (entity_faults.Wire fault), tt)
 
 dense_objects_tell : (b : PrimitiveBlock) (bytes : List ℕ) → AllTell (dense_objects b bytes)
 unfolding dense_objects
-dense_objects_tell b bytes = dense_parts_tell b (message dense_nodes bytes)
+dense_objects_tell b bytes = dense_parts_tell b (message DENSE_NODES bytes)
 
 at_tell : (b : PrimitiveBlock) (k : ℕ) (bytes : List ℕ) → AllTell (objects_at b k bytes)
 at_tell b k bytes =

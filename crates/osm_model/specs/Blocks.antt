@@ -6,37 +6,19 @@ use Rattle.mf_base.specs.declared.place.Place.{Place}
 use Rattle.mf_base.specs.declared.place.Rect.{Rect}
 use Rattle.mf_base.specs.Steps.{◌>>=◌, require, refuse, told_as}
 use Rattle.mf_base.specs.Spelling.{unzigzag_of}
+use Rattle.osm_model.specs.declared.numbers.TheConstants.{HEADER_BLOCK_BBOX, HEADER_BLOCK_REQUIRED_FEATURES, BBOX_LEFT, BBOX_RIGHT, BBOX_TOP, BBOX_BOTTOM, BLOCK_STRINGTABLE, BLOCK_PRIMITIVEGROUP, BLOCK_GRANULARITY, BLOCK_LAT_OFFSET, BLOCK_LON_OFFSET, STRINGTABLE_S}
+use Rattle.osm_model.specs.declared.limits.TheConstants.{STRINGS_LIMIT, LATITUDE_LIMIT, LONGITUDE_LIMIT}
+use Rattle.osm_model.specs.declared.tables.TheConstants.{HEADER_BLOCK, HEADER_BBOX, PRIMITIVE_BLOCK, STRING_TABLE}
+use Rattle.osm_model.specs.declared.faults.BlockFault.{BlockFault}
+use Rattle.osm_model.specs.declared.faults.BlockFault.TheVariants.{BadBox, Wire, RequiredFeature, TooManyStrings, NotText, NoStrings}
 use Rattle.osm_model.specs.Wire.{Field, int64}
-use Rattle.osm_model.specs.Tables.{MessageFault, message, header_block, header_bbox, primitive_block, string_table, once_of, bytes_of, number_of}
-
--- Why a HeaderBlock or the head of a PrimitiveBlock is refused.
-pub data BlockFault : Type 0 where
-  -- a fault of the HeaderBlock, its bbox, the PrimitiveBlock or its StringTable as messages
-  wire : MessageFault → BlockFault
-  -- the bbox lacks a side, a side is not on the earth, left is above right, or bottom above top
-  bad_box : BlockFault
-  -- a required feature that this project does not know
-  required_feature : BlockFault
-  -- the PrimitiveBlock has no StringTable
-  no_strings : BlockFault
-  -- the StringTable has more than 4,194,304 entries
-  too_many_strings : BlockFault
-  -- the entry with this index is the first that is no UTF-8
-  not_text : ℕ → BlockFault
+use Rattle.osm_model.specs.Tables.{message, once_of, bytes_of, number_of}
 
 -- ---- places
 
--- the greatest latitude, in nanodegrees
-abbrev pub latitude_limit : ℕ
-latitude_limit = 90000000000
-
--- the greatest longitude, in nanodegrees
-abbrev pub longitude_limit : ℕ
-longitude_limit = 180000000000
-
 -- the nanodegrees lie within the limit on both sides of 0
-abbrev pub is_within : ℕ → ℤ → Bool
-is_within limit nano = nat_le (nat_abs nano) limit
+abbrev pub keeps_limit : ℕ → ℤ → Bool
+keeps_limit limit nano = nat_le (nat_abs nano) limit
 
 -- the microdegrees of nanodegrees, rounded towards zero
 abbrev pub micro : ℤ → ℤ
@@ -62,7 +44,7 @@ lon_nano head lon = nano head.lon_offset head.granularity lon
 
 -- the stored latitude and longitude lie on the earth
 abbrev pub is_coordinate : BlockHead → ℤ → ℤ → Bool
-is_coordinate head lat lon = is_within latitude_limit (lat_nano head lat) && is_within longitude_limit (lon_nano head lon)
+is_coordinate head lat lon = keeps_limit LATITUDE_LIMIT (lat_nano head lat) && keeps_limit LONGITUDE_LIMIT (lon_nano head lon)
 
 -- The place of a stored latitude and longitude, in microdegrees.
 unfoldable pub place_of : BlockHead → ℤ → ℤ → Place
@@ -73,22 +55,22 @@ place_of head lat lon = record { lat = micro (lat_nano head lat); lon = micro (l
 -- the sides of a box, left, right, top and bottom in nanodegrees, are on the earth, left not above right and bottom not above top
 abbrev pub are_sides : ℤ → ℤ → ℤ → ℤ → Bool
 are_sides left right top bottom =
-    is_within longitude_limit left && is_within longitude_limit right && is_within latitude_limit top && is_within latitude_limit bottom
+    keeps_limit LONGITUDE_LIMIT left && keeps_limit LONGITUDE_LIMIT right && keeps_limit LATITUDE_LIMIT top && keeps_limit LATITUDE_LIMIT bottom
     && int_le left right && int_le bottom top
 
 -- the side of a HeaderBBox in the field with this number, in nanodegrees
 abbrev pub side : ℕ → List Field → Result ℤ BlockFault
-side k sides = ok_or (option_map unzigzag_of (number_of k sides)) bad_box
+side k sides = ok_or (option_map unzigzag_of (number_of k sides)) BadBox
 
 -- the box of a HeaderBBox, in microdegrees, or its first fault
 unfoldable pub box_in : List ℕ → Result Rect BlockFault
 box_in bytes = do
-  sides ← told_as wire (message header_bbox bytes)
-  left ← side 1 sides
-  right ← side 2 sides
-  top ← side 3 sides
-  bottom ← side 4 sides
-  _ ← require (are_sides left right top bottom) bad_box
+  sides ← told_as Wire (message HEADER_BBOX bytes)
+  left ← side BBOX_LEFT sides
+  right ← side BBOX_RIGHT sides
+  top ← side BBOX_TOP sides
+  bottom ← side BBOX_BOTTOM sides
+  _ ← require (are_sides left right top bottom) BadBox
   Ok (record { min_lat = micro bottom; min_lon = micro left; max_lat = micro top; max_lon = micro right })
 
 -- the box of a bbox, where there is one, or its first fault
@@ -105,36 +87,32 @@ is_known_feature feature = bytes_eq feature (codes "OsmSchema-V0.6") || bytes_eq
 -- The box of a HeaderBlock, where it has one, or its first fault.
 unfoldable pub header_box : List ℕ → Result (Option Rect) BlockFault
 header_box raw = do
-  parts ← told_as wire (message header_block raw)
-  box ← box_where (once_of 1 parts)
-  _ ← require (list_all is_known_feature (bytes_of 4 parts)) required_feature
+  fs ← told_as Wire (message HEADER_BLOCK raw)
+  box ← box_where (once_of HEADER_BLOCK_BBOX fs)
+  _ ← require (list_all is_known_feature (bytes_of HEADER_BLOCK_REQUIRED_FEATURES fs)) RequiredFeature
   Ok box
 
 -- ---- the head of a PrimitiveBlock
 
--- a string table has at most this many entries
-abbrev pub strings_limit : ℕ
-strings_limit = 4194304
-
 -- the entries of a StringTable, or its first fault
 unfoldable pub strings_in : List ℕ → Result (List (List ℕ)) BlockFault
 strings_in table = do
-  parts ← told_as wire (message string_table table)
-  let strings = bytes_of 1 parts
-  _ ← require (nat_le (length strings) strings_limit) too_many_strings
-  _ ← refuse (option_map not_text (position (λ entry. not (is_utf8 entry)) strings))
+  fs ← told_as Wire (message STRING_TABLE table)
+  let strings = bytes_of STRINGTABLE_S fs
+  _ ← require (nat_le (length strings) STRINGS_LIMIT) TooManyStrings
+  _ ← refuse (option_map NotText (position (λ entry. not (is_utf8 entry)) strings))
   Ok strings
 
 -- the strings of a PrimitiveBlock with these fields, or the first fault up to them
 abbrev pub strings_of : List Field → Result (List (List ℕ)) BlockFault
-strings_of parts = ok_or (once_of 1 parts) no_strings >>= strings_in
+strings_of fs = ok_or (once_of BLOCK_STRINGTABLE fs) NoStrings >>= strings_in
 
 -- the granularity and the offsets of a PrimitiveBlock with these fields: where they are absent 100, 0 and 0 nanodegrees
-abbrev pub head_of : List Field → BlockHead
-head_of parts = record {
-  granularity = int64 (unwrap_or (number_of 17 parts) 100);
-  lat_offset = int64 (unwrap_or (number_of 19 parts) 0);
-  lon_offset = int64 (unwrap_or (number_of 20 parts) 0);
+abbrev pub block_head_of : List Field → BlockHead
+block_head_of fs = record {
+  granularity = int64 (unwrap_or (number_of BLOCK_GRANULARITY fs) 100);
+  lat_offset = int64 (unwrap_or (number_of BLOCK_LAT_OFFSET fs) 0);
+  lon_offset = int64 (unwrap_or (number_of BLOCK_LON_OFFSET fs) 0);
 }
 
 -- What a PrimitiveBlock has besides its objects.
@@ -146,14 +124,14 @@ pub record PrimitiveBlock : Type 0 where
 -- A PrimitiveBlock, or its first fault before its groups.
 unfoldable pub block : List ℕ → Result PrimitiveBlock BlockFault
 block raw = do
-  parts ← told_as wire (message primitive_block raw)
-  strings ← strings_of parts
-  Ok (record { head = head_of parts; strings = strings; groups = bytes_of 2 parts })
+  fs ← told_as Wire (message PRIMITIVE_BLOCK raw)
+  strings ← strings_of fs
+  Ok (record { head = block_head_of fs; strings = strings; groups = bytes_of BLOCK_PRIMITIVEGROUP fs })
 
 -- The head of a PrimitiveBlock, or the first fault of its message.
 unfoldable pub block_head : List ℕ → Result BlockHead BlockFault
-block_head raw = told_as wire (message primitive_block raw) >>= λ parts. Ok (head_of parts)
+block_head raw = told_as Wire (message PRIMITIVE_BLOCK raw) >>= λ fs. Ok (block_head_of fs)
 
 -- The strings of a PrimitiveBlock, or the first fault up to them.
 unfoldable pub block_strings : List ℕ → Result (List (List ℕ)) BlockFault
-block_strings raw = told_as wire (message primitive_block raw) >>= strings_of
+block_strings raw = told_as Wire (message PRIMITIVE_BLOCK raw) >>= strings_of

@@ -1,11 +1,16 @@
 -- The blobs of an extract: the OpenStreetMap wiki, "PBF Format", on its file format.
-use Rattle.std.specs.Prelude.{Bool, true, false, filter, Result, ◌≡◌, ◌≢◌, ℕ, zero, suc, ◌+◌, ◌-◌, ◌^◌, ◌≤◌, ◌<◌, ◌&&◌, ◌==◌, nat_lt, nat_le, if◌then◌else◌, List, [], ◌∷◌, ◌++◌, length, take, drop, map, find, Option, Some, None, option_map, ok_or, Ok, Err, codes, bytes_eq, MatchOption, ⊤}
+use Rattle.std.specs.Prelude.{Bool, true, false, filter, Result, ◌≡◌, ◌≢◌, ℕ, zero, suc, ◌+◌, ◌-◌, ◌≤◌, ◌<◌, ◌&&◌, ◌==◌, nat_lt, nat_le, if◌then◌else◌, List, [], ◌∷◌, ◌++◌, length, take, drop, map, find, Option, Some, None, option_map, ok_or, Ok, Err, codes, bytes_eq, MatchOption, ⊤}
 use Rattle.byteorder.specs.Endian.{big_number}
 use Rattle.mf_base.specs.Spelling.{big_endian}
 use Rattle.mf_base.specs.Steps.{◌>>=◌, require, refuse, told_as}
+use Rattle.osm_model.specs.declared.numbers.TheConstants.{BLOB_HEADER_TYPE, BLOB_HEADER_DATASIZE, BLOB_RAW, BLOB_RAW_SIZE, BLOB_ZLIB_DATA, BLOB_ZSTD_DATA}
+use Rattle.osm_model.specs.declared.limits.TheConstants.{HEADER_LIMIT, BLOB_LIMIT, LENGTH_SIZE, OFFSET_LIMIT}
+use Rattle.osm_model.specs.declared.tables.TheConstants.{BLOB_HEADER, BLOB}
+use Rattle.osm_model.specs.declared.faults.FrameFault.{FrameFault}
+use Rattle.osm_model.specs.declared.faults.FrameFault.TheVariants.{Truncated, RawSize, BlobWire, Compressed, NoBytes, TooLong, HeaderLength, HeaderWire, NoKind, NoSize, BlobSize}
 use Rattle.osm_model.specs.Reading.{Reading, all_read, stops_at, then_reads}
 use Rattle.osm_model.specs.Wire.{Field, IsMessage}
-use Rattle.osm_model.specs.Tables.{MessageFault, FitsTable, message, blob_header, blob, once_of, number_of}
+use Rattle.osm_model.specs.Tables.{FitsTable, message, once_of, number_of}
 
 -- What a blob holds, by its type: the raw bytes of a HeaderBlock or of a PrimitiveBlock, or bytes that are not read, of which the type alone is kept.
 pub data Content : Type 0 where
@@ -22,129 +27,92 @@ pub record Frame : Type 0 where
 abbrev pub type_of : Content → List ℕ
 type_of (header raw) = codes "OSMHeader"
 type_of (primitive raw) = codes "OSMData"
-type_of (unread kind) = kind
-
--- a BlobHeader has at most this many bytes
-abbrev pub header_limit : ℕ
-header_limit = 65535
-
--- a Blob has at most this many bytes
-abbrev pub blob_limit : ℕ
-blob_limit = 33554432
-
--- each blob begins before this offset in the input, in bytes
-abbrev pub offset_limit : ℕ
-offset_limit = 2 ^ 62
+type_of (unread type) = type
 
 -- the number of the first field with compressed data: of zlib, lzma, bzip2, lz4 or zstd
 abbrev pub compressed_of : List Field → Option ℕ
-compressed_of fs = find (λ k. nat_le 3 k && nat_le k 7) (map (λ (f : Field). f.number) fs)
+compressed_of fs = find (λ k. nat_le BLOB_ZLIB_DATA k && nat_le k BLOB_ZSTD_DATA) (map (λ (f : Field). f.number) fs)
 
 -- The bytes are a BlobHeader with this type and this datasize.
-pub record IsBlobHeader (kind : List ℕ) (size : ℕ) (b : List ℕ) : Type 0 where
-  pub parts : List Field
-  pub spelled : IsMessage b parts
-  pub fits : FitsTable blob_header parts
-  pub named : once_of 1 parts ≡ Some kind
-  pub sized : number_of 3 parts ≡ Some size
+pub record IsBlobHeader (type : List ℕ) (size : ℕ) (b : List ℕ) : Type 0 where
+  pub fields : List Field
+  pub spelled : IsMessage b fields
+  pub fits : FitsTable BLOB_HEADER fields
+  pub named : once_of BLOB_HEADER_TYPE fields ≡ Some type
+  pub sized : number_of BLOB_HEADER_DATASIZE fields ≡ Some size
 
 -- The bytes are a Blob that holds these raw bytes, and no others.
 pub record IsBlob (raw : List ℕ) (b : List ℕ) : Type 0 where
-  pub parts : List Field
-  pub spelled : IsMessage b parts
-  pub fits : FitsTable blob parts
-  pub plain : compressed_of parts ≡ None
-  pub held : once_of 1 parts ≡ Some raw
-  pub told : MatchOption (number_of 2 parts) ⊤ (λ size. size ≡ length raw)
+  pub fields : List Field
+  pub spelled : IsMessage b fields
+  pub fits : FitsTable BLOB fields
+  pub plain : compressed_of fields ≡ None
+  pub held : once_of BLOB_RAW fields ≡ Some raw
+  pub told : MatchOption (number_of BLOB_RAW_SIZE fields) ⊤ (λ size. size ≡ length raw)
 
 -- The bytes of a blob of this content: the raw bytes where its type is known, and else any.
 abbrev pub HoldsContent : Content → List ℕ → Type 0
 HoldsContent (header raw) b = IsBlob raw b
 HoldsContent (primitive raw) b = IsBlob raw b
-HoldsContent (unread kind) b = (kind ≢ codes "OSMHeader") × (kind ≢ codes "OSMData")
+HoldsContent (unread type) b = (type ≢ codes "OSMHeader") × (type ≢ codes "OSMData")
 
 -- The bytes spell a blob: the length of the BlobHeader in four bytes, the highest first, then the BlobHeader, then the Blob.
 pub record SpellsFrame (content : Content) (b : List ℕ) : Type 0 where
   pub head : List ℕ
   pub body : List ℕ
-  pub whole : b ≡ big_endian 4 (length head) ++ head ++ body
-  pub head_size : length head ≤ header_limit
-  pub body_size : length body ≤ blob_limit
+  pub whole : b ≡ big_endian LENGTH_SIZE (length head) ++ head ++ body
+  pub head_size : length head ≤ HEADER_LIMIT
+  pub body_size : length body ≤ BLOB_LIMIT
   pub head_holds : IsBlobHeader (type_of content) (length body) head
   pub body_holds : HoldsContent content body
 
 -- The bytes are these blobs, one after another, the first at this offset, and each begins before 2^62.
 abbrev pub AreFrames : ℕ → List ℕ → List Frame → Type 0
 AreFrames at b [] = b ≡ []
-AreFrames at b (f ∷ fs) = (front : List ℕ) × (rest : List ℕ) × (f.at ≡ at) × (at < offset_limit) × SpellsFrame f.content front × AreFrames (at + length front) rest fs × (b ≡ front ++ rest)
-
--- Why the bytes begin with no blob.
-pub data FrameFault : Type 0 where
-  -- the offset is 2^62 or more
-  too_long : FrameFault
-  -- the input ends after so many bytes of the length, of the BlobHeader or of the Blob
-  truncated : ℕ → FrameFault
-  -- the length is above 65,535
-  header_length : FrameFault
-  -- a fault of the BlobHeader message
-  header_wire : MessageFault → FrameFault
-  -- the BlobHeader has no type
-  no_type : FrameFault
-  -- the BlobHeader has no datasize
-  no_size : FrameFault
-  -- datasize is above 33,554,432
-  blob_size : FrameFault
-  -- a fault of the Blob message
-  blob_wire : MessageFault → FrameFault
-  -- there is compressed data, first in the field with this number
-  compressed : ℕ → FrameFault
-  -- the Blob has no raw data
-  no_data : FrameFault
-  -- raw_size tells the first number, and raw has as many bytes as the second
-  raw_size : ℕ → ℕ → FrameFault
+AreFrames at b (f ∷ fs) = (front : List ℕ) × (rest : List ℕ) × (f.at ≡ at) × (at < OFFSET_LIMIT) × SpellsFrame f.content front × AreFrames (at + length front) rest fs × (b ≡ front ++ rest)
 
 -- the first so many bytes, where there are as many
 abbrev pub whole_part : ℕ → List ℕ → Result (List ℕ) FrameFault
 whole_part count bytes = do
-  _ ← require (nat_le count (length bytes)) (truncated (length bytes))
+  _ ← require (nat_le count (length bytes)) (Truncated (length bytes))
   Ok (take count bytes)
 
 -- the fault of a raw_size that is there and is not the number of bytes found
 abbrev pub raw_size_fault : Option ℕ → ℕ → Option FrameFault
 raw_size_fault None found = None
-raw_size_fault (Some told) found = if told == found then None else Some (raw_size told found)
+raw_size_fault (Some told) found = if told == found then None else Some (RawSize told found)
 
 -- the raw bytes of a Blob, or its first fault
 unfoldable pub raw_bytes : List ℕ → Result (List ℕ) FrameFault
 raw_bytes bytes = do
-  parts ← told_as blob_wire (message blob bytes)
-  _ ← refuse (option_map compressed (compressed_of parts))
-  raw ← ok_or (once_of 1 parts) no_data
-  _ ← refuse (raw_size_fault (number_of 2 parts) (length raw))
+  fs ← told_as BlobWire (message BLOB bytes)
+  _ ← refuse (option_map Compressed (compressed_of fs))
+  raw ← ok_or (once_of BLOB_RAW fs) NoBytes
+  _ ← refuse (raw_size_fault (number_of BLOB_RAW_SIZE fs) (length raw))
   Ok raw
 
 -- what a blob of this type holds in these bytes
 abbrev pub content_in : List ℕ → List ℕ → Result Content FrameFault
-content_in kind bytes =
-    if bytes_eq kind (codes "OSMHeader") then (raw_bytes bytes >>= λ raw. Ok (header raw))
-    else (if bytes_eq kind (codes "OSMData") then (raw_bytes bytes >>= λ raw. Ok (primitive raw))
-    else Ok (unread kind))
+content_in type bytes =
+    if bytes_eq type (codes "OSMHeader") then (raw_bytes bytes >>= λ raw. Ok (header raw))
+    else (if bytes_eq type (codes "OSMData") then (raw_bytes bytes >>= λ raw. Ok (primitive raw))
+    else Ok (unread type))
 
 -- The blob that the bytes at this offset begin with, and how many bytes it takes, or its first fault.
 unfoldable pub frame_front : ℕ → List ℕ → Result (Content × ℕ) FrameFault
 frame_front at bytes = do
-  _ ← require (nat_lt at offset_limit) too_long
-  size ← whole_part 4 bytes
-  let head_size = big_number 4 size
-  _ ← require (nat_le head_size header_limit) header_length
-  head ← whole_part head_size (drop 4 bytes)
-  parts ← told_as header_wire (message blob_header head)
-  kind ← ok_or (once_of 1 parts) no_type
-  body_size ← ok_or (number_of 3 parts) no_size
-  _ ← require (nat_le body_size blob_limit) blob_size
-  body ← whole_part body_size (drop (4 + head_size) bytes)
-  content ← content_in kind body
-  Ok (content, 4 + head_size + body_size)
+  _ ← require (nat_lt at OFFSET_LIMIT) TooLong
+  size ← whole_part LENGTH_SIZE bytes
+  let head_size = big_number LENGTH_SIZE size
+  _ ← require (nat_le head_size HEADER_LIMIT) HeaderLength
+  head ← whole_part head_size (drop LENGTH_SIZE bytes)
+  fs ← told_as HeaderWire (message BLOB_HEADER head)
+  type ← ok_or (once_of BLOB_HEADER_TYPE fs) NoKind
+  body_size ← ok_or (number_of BLOB_HEADER_DATASIZE fs) NoSize
+  _ ← require (nat_le body_size BLOB_LIMIT) BlobSize
+  body ← whole_part body_size (drop (LENGTH_SIZE + head_size) bytes)
+  content ← content_in type body
+  Ok (content, LENGTH_SIZE + head_size + body_size)
 
 -- A fault of a blob, with the offset of the blob.
 pub record FrameFaultAt : Type 0 where
@@ -171,7 +139,7 @@ frames bytes = frames_at 0 bytes
 
 -- a blob whose type is known
 abbrev pub is_known : Frame → Bool
-is_known f = elim f.content [ header raw ↦ true | primitive raw ↦ true | unread kind ↦ false ]
+is_known f = elim f.content [ header raw ↦ true | primitive raw ↦ true | unread type ↦ false ]
 
 -- the blobs of known types; those of other types are passed over
 abbrev pub known_frames : List Frame → List Frame

@@ -3,46 +3,38 @@ use Rattle.std.specs.Prelude.{◌≡◌, ◌≢◌, ℕ, List, [], ◌∷◌, �
 use Rattle.std.specs.Option.{option_or}
 use Rattle.mf_base.specs.declared.place.Rect.{Rect}
 use Rattle.mf_base.specs.Steps.{fault_of, answer_of}
+use Rattle.osm_model.specs.declared.faults.InputCode.{InputCode}
+use Rattle.osm_model.specs.declared.faults.InputFault.{InputFault}
+use Rattle.osm_model.specs.declared.faults.InputCode.TheVariants as input_codes
 use Rattle.osm_model.specs.Reading.{Reading, all_read, stops_at, then_reads}
-use Rattle.osm_model.specs.Frames.{Content, header, primitive, unread, Frame, FrameFault, FrameFaultAt, AreFrames, frame_front, frames}
-use Rattle.osm_model.specs.Blocks.{BlockFault, header_box, block}
+use Rattle.osm_model.specs.Frames.{Content, header, primitive, unread, Frame, FrameFaultAt, AreFrames, frame_front, frames}
+use Rattle.osm_model.specs.Blocks.{header_box, block}
 use Rattle.osm_model.specs.Entities.{Entity}
-use Rattle.osm_model.specs.Objects.{EntityFault, block_objects, block_entities}
+use Rattle.osm_model.specs.Objects.{block_objects, block_entities}
 use Rattle.osm_model.specs.Order.{in_order}
-
--- Why an input is refused: a blob, what a block has before its objects, or an object.
-pub data InputCode : Type 0 where
-  of_frame : FrameFault → InputCode
-  of_block : BlockFault → InputCode
-  of_entity : EntityFault → InputCode
-
--- The first fault of an input, with the offset of its blob in the input, in bytes.
-pub record InputFault : Type 0 where
-  pub at : ℕ
-  pub code : InputCode
 
 -- the first fault of a PrimitiveBlock behind these objects
 unfoldable pub block_fault : List Entity → List ℕ → Option InputCode
 block_fault before raw =
     elim (block raw) [
-      | Ok in_block ↦ option_map of_entity (in_order before (block_objects in_block)).fault
-      | Err fault ↦ Some (of_block fault)
+      | Ok in_block ↦ option_map input_codes.Entity (in_order before (block_objects in_block)).fault
+      | Err fault ↦ Some (input_codes.Block fault)
     ]
 
 -- the first fault of what a blob holds, behind these objects
 abbrev pub content_fault : List Entity → Content → Option InputCode
-content_fault before (header raw) = option_map of_block (fault_of (header_box raw))
+content_fault before (header raw) = option_map input_codes.Block (fault_of (header_box raw))
 content_fault before (primitive raw) = block_fault before raw
 content_fault before (unread kind) = None
 
 -- the objects of a PrimitiveBlock, in the order of the bytes
-unfoldable pub raw_entities : List ℕ → List Entity
-raw_entities raw = elim (block raw) [ Ok in_block ↦ block_entities in_block | Err fault ↦ [] ]
+unfoldable pub entities_in : List ℕ → List Entity
+entities_in raw = elim (block raw) [ Ok in_block ↦ block_entities in_block | Err fault ↦ [] ]
 
 -- the objects of what a blob holds
 abbrev pub content_entities : Content → List Entity
 content_entities (header raw) = []
-content_entities (primitive raw) = raw_entities raw
+content_entities (primitive raw) = entities_in raw
 content_entities (unread kind) = []
 
 -- the objects of blobs, in the order of the bytes
@@ -69,14 +61,14 @@ unfoldable pub good_frames : List ℕ → List Frame
 good_frames bytes = (sound_frames [] (frames bytes).items).items
 
 -- a fault of a blob as one of the input
-abbrev pub frame_fault : FrameFaultAt → InputFault
-frame_fault told = record { at = told.at; code = of_frame told.fault }
+abbrev pub as_input_fault : FrameFaultAt → InputFault
+as_input_fault told = record { at = told.at; code = input_codes.Frame told.fault }
 
 -- The first fault of an input: None exactly where it is accepted.
 unfoldable pub input_fault : List ℕ → Option InputFault
 input_fault bytes =
     let read = frames bytes in
-    option_or (sound_frames [] read.items).fault (option_map frame_fault read.fault)
+    option_or (sound_frames [] read.items).fault (option_map as_input_fault read.fault)
 
 -- The objects of an input, in the order of the bytes.
 unfoldable pub input_entities : List ℕ → List Entity
@@ -97,7 +89,7 @@ AreSound before (f ∷ fs) = (content_fault before f.content ≡ None) × AreSou
 
 -- the first step that bytes at this offset break, behind these objects
 abbrev pub first_step : List Entity → ℕ → List ℕ → Option InputCode
-first_step before at bytes = elim (frame_front at bytes) [ Ok found ↦ content_fault before found.0 | Err fault ↦ Some (of_frame fault) ]
+first_step before at bytes = elim (frame_front at bytes) [ Ok found ↦ content_fault before found.0 | Err fault ↦ Some (input_codes.Frame fault) ]
 
 -- Nothing is left, or bytes at this offset that break a step behind these objects.
 abbrev pub InputEnds : List Entity → ℕ → List ℕ → Option InputFault → Type 0

@@ -7,35 +7,14 @@ use Rattle.mf_base.specs.Steps.{◌>>=◌, require, told_as, each, answer_of}
 use Rattle.mf_base.specs.Spelling.{unzigzag_of}
 use Rattle.mf_base.specs.Ranges.{is_signed_64}
 use Rattle.mf_base.specs.declared.kind.EntityKind.TheVariants as kinds
+use Rattle.osm_model.specs.declared.numbers.TheConstants.{WAY_ID, RELATION_ID, RELATION_ROLES_SID, RELATION_MEMIDS, RELATION_TYPES, RELATION_KEYS, RELATION_VALS, GROUP_NODES, GROUP_DENSE, GROUP_WAYS, GROUP_RELATIONS, GROUP_CHANGESETS, NODE_ID, NODE_KEYS, NODE_VALS, NODE_LAT, NODE_LON, DENSE_ID, DENSE_LAT, DENSE_LON, DENSE_KEYS_VALS, WAY_KEYS, WAY_VALS, WAY_REFS}
+use Rattle.osm_model.specs.declared.tables.TheConstants.{PRIMITIVE_GROUP, NODE, DENSE_NODES, WAY, RELATION}
+use Rattle.osm_model.specs.declared.faults.EntityFault.{EntityFault}
+use Rattle.osm_model.specs.declared.faults.EntityFault.TheVariants.{StringIndex, KeyWithoutValue, Coordinate, Missing, Wire, Columns, Range, MemberKind, MixedGroup}
 use Rattle.osm_model.specs.Wire.{Field, int64}
-use Rattle.osm_model.specs.Tables.{MessageFault, message, primitive_group, node_table, dense_nodes, way_table, relation_table, counted_bytes, number_of, packed_of, signed_of}
+use Rattle.osm_model.specs.Tables.{message, counted_bytes, number_of, packed_of, packed_sint64_of}
 use Rattle.osm_model.specs.Blocks.{BlockHead, PrimitiveBlock, is_coordinate, place_of}
 use Rattle.osm_model.specs.Entities.{Member, Entity, node, way, relation}
-
--- Why an object is refused, or the group or the nodes it stands in.
-pub data EntityFault : Type 0 where
-  -- a fault of the group or of the object as messages
-  wire : MessageFault → EntityFault
-  -- the group has objects of two kinds
-  mixed_group : EntityFault
-  -- lists that belong together differ in number
-  columns : EntityFault
-  -- the object has no id, or a node no latitude or longitude
-  missing : EntityFault
-  -- a sum of differences is outside signed 64 bits
-  range : EntityFault
-  -- a node behind a way or relation, or a way behind a relation
-  kind_order : EntityFault
-  -- the last id of the kind, and the id of the object, which is not above it
-  out_of_order : ℕ → ℤ → EntityFault
-  -- a latitude beyond 90 or a longitude beyond 180 degrees
-  coordinate : EntityFault
-  -- the keys and the values differ in number
-  key_without_value : EntityFault
-  -- an index not below the number of strings
-  string_index : EntityFault
-  -- a member that is neither node, way nor relation
-  member_kind : EntityFault
 
 -- An object before its place in the order is looked at: its kind and id, and what it is or its first fault behind the order.
 pub record Object : Type 0 where
@@ -47,7 +26,7 @@ pub record Object : Type 0 where
 
 -- the string with this index
 abbrev pub string_at : List (List ℕ) → ℕ → Result (List ℕ) EntityFault
-string_at strings k = ok_or (slice_get strings k) string_index
+string_at strings k = ok_or (slice_get strings k) StringIndex
 
 -- the tag of the index of a key and the index of a value
 abbrev pub tag_at : List (List ℕ) → ℕ × ℕ → Result Tag EntityFault
@@ -59,7 +38,7 @@ tag_at strings pair = do
 -- the tags of a list of indices of keys and one of values
 unfoldable pub indexed_tags : List (List ℕ) → List ℕ → List ℕ → Result Tags EntityFault
 indexed_tags strings keys vals = do
-  _ ← require (length keys == length vals) key_without_value
+  _ ← require (length keys == length vals) KeyWithoutValue
   each (tag_at strings) (zip keys vals)
 
 -- ---- delta columns
@@ -70,35 +49,35 @@ int_sum [] = pos 0
 int_sum (z ∷ zs) = z +ℤ int_sum zs
 
 -- the numbers of a delta column: each is the sum of the differences up to it
-unfoldable pub column : List ℤ → List ℤ
-column [] = []
-column (d ∷ ds) = d ∷ map (λ sum. d +ℤ sum) (column ds)
+unfoldable pub running_sums : List ℤ → List ℤ
+running_sums [] = []
+running_sums (d ∷ ds) = d ∷ map (λ sum. d +ℤ sum) (running_sums ds)
 
 -- the numbers of a delta column behind numbers of this sum
-abbrev pub column_from : ℤ → List ℤ → List ℤ
-column_from base ds = map (λ sum. base +ℤ sum) (column ds)
+abbrev pub running_sums_from : ℤ → List ℤ → List ℤ
+running_sums_from base ds = map (λ sum. base +ℤ sum) (running_sums ds)
 
 -- ---- plain nodes
 
 -- the node of an id, a stored latitude and longitude and its tags
 abbrev pub node_of : BlockHead → ℤ → ℤ → ℤ → Result Tags EntityFault → Result Entity EntityFault
 node_of head id lat lon told = do
-  _ ← require (is_coordinate head lat lon) coordinate
+  _ ← require (is_coordinate head lat lon) Coordinate
   tags ← told
   Ok (node (record { id = nat_abs id; place = place_of head lat lon; tags = tags }))
 
 -- the sint64 in the field with this number, which must be there
-abbrev pub signed : ℕ → List Field → Result ℤ EntityFault
-signed k parts = ok_or (option_map unzigzag_of (number_of k parts)) missing
+abbrev pub sint64_at : ℕ → List Field → Result ℤ EntityFault
+sint64_at k fs = ok_or (option_map unzigzag_of (number_of k fs)) Missing
 
 -- the object of a Node message, or its first fault before the order
 unfoldable pub node_object : PrimitiveBlock → List ℕ → Result Object EntityFault
 node_object in_block bytes = do
-  parts ← told_as wire (message node_table bytes)
-  id ← signed 1 parts
-  lat ← signed 8 parts
-  lon ← signed 9 parts
-  Ok (record { kind = kinds.Node; id = id; entity = node_of in_block.head id lat lon (indexed_tags in_block.strings (packed_of 2 parts) (packed_of 3 parts)) })
+  fs ← told_as Wire (message NODE bytes)
+  id ← sint64_at NODE_ID fs
+  lat ← sint64_at NODE_LAT fs
+  lon ← sint64_at NODE_LON fs
+  Ok (record { kind = kinds.Node; id = id; entity = node_of in_block.head id lat lon (indexed_tags in_block.strings (packed_of NODE_KEYS fs) (packed_of NODE_VALS fs)) })
 
 -- ---- dense nodes
 
@@ -140,8 +119,8 @@ HasKeys pairs = AllByRecursion (λ (pair : ℕ × ℕ). 0 < pair.0) pairs
 -- the tags of a run with this end, behind those of its pairs
 abbrev pub end_of_run : List (List ℕ) → RunEnd → Tags → Result Tags EntityFault
 end_of_run strings by_zero tags = Ok tags
-end_of_run strings (behind_key k) tags = string_at strings k >>= λ key. Err key_without_value
-end_of_run strings with_list tags = Err columns
+end_of_run strings (behind_key k) tags = string_at strings k >>= λ key. Err KeyWithoutValue
+end_of_run strings with_list tags = Err Columns
 
 -- the tags of a run, or its first fault in the order of keys_vals
 unfoldable pub run_tags : List (List ℕ) → TagRun → Result Tags EntityFault
@@ -157,13 +136,13 @@ runs_of count (k ∷ rest) = tag_runs (k ∷ rest)
 -- a dense node of an id, a latitude and a longitude, which are sums of differences
 abbrev pub dense_node : PrimitiveBlock → ℤ × ℤ × ℤ → TagRun → Result Object EntityFault
 dense_node in_block (id, lat, lon) run = do
-  _ ← require (is_signed_64 id && is_signed_64 lat && is_signed_64 lon) range
+  _ ← require (is_signed_64 id && is_signed_64 lat && is_signed_64 lon) Range
   Ok (record { kind = kinds.Node; id = id; entity = node_of in_block.head id lat lon (run_tags in_block.strings run) })
 
 -- each node with its run; a node without one has none of the list, and a run without a node is left over
 unfoldable pub with_runs : PrimitiveBlock → List (ℤ × ℤ × ℤ) → List TagRun → List (Result Object EntityFault)
 with_runs in_block [] [] = []
-with_runs in_block [] (run ∷ runs) = Err columns ∷ []
+with_runs in_block [] (run ∷ runs) = Err Columns ∷ []
 with_runs in_block (n ∷ ns) [] = dense_node in_block n (empty_run with_list) ∷ with_runs in_block ns []
 with_runs in_block (n ∷ ns) (run ∷ runs) = dense_node in_block n run ∷ with_runs in_block ns runs
 
@@ -178,15 +157,15 @@ zip_three (x ∷ xs) (y ∷ ys) (z ∷ zs) = (x, y, z) ∷ zip_three xs ys zs
 unfoldable pub dense_columns : PrimitiveBlock → List ℤ → List ℤ → List ℤ → List ℕ → List (Result Object EntityFault)
 dense_columns in_block ids lats lons keys_vals =
     if (length ids == length lats) && (length ids == length lons)
-    then with_runs in_block (zip_three (column ids) (column lats) (column lons)) (runs_of (length ids) keys_vals)
-    else Err columns ∷ []
+    then with_runs in_block (zip_three (running_sums ids) (running_sums lats) (running_sums lons)) (runs_of (length ids) keys_vals)
+    else Err Columns ∷ []
 
 -- the objects of a DenseNodes message
 unfoldable pub dense_objects : PrimitiveBlock → List ℕ → List (Result Object EntityFault)
 dense_objects in_block bytes =
-    elim (message dense_nodes bytes) [
-      | Ok parts ↦ dense_columns in_block (signed_of 1 parts) (signed_of 8 parts) (signed_of 9 parts) (packed_of 10 parts)
-      | Err fault ↦ Err (wire fault) ∷ []
+    elim (message DENSE_NODES bytes) [
+      | Ok fs ↦ dense_columns in_block (packed_sint64_of DENSE_ID fs) (packed_sint64_of DENSE_LAT fs) (packed_sint64_of DENSE_LON fs) (packed_of DENSE_KEYS_VALS fs)
+      | Err fault ↦ Err (Wire fault) ∷ []
     ]
 
 -- ---- ways
@@ -195,19 +174,19 @@ dense_objects in_block bytes =
 abbrev pub way_of : ℤ → List ℤ → Result Tags EntityFault → Result Entity EntityFault
 way_of id refs told = do
   tags ← told
-  _ ← require (list_all is_signed_64 refs) range
+  _ ← require (list_all is_signed_64 refs) Range
   Ok (way (record { id = nat_abs id; refs = refs; tags = tags }))
 
--- the id of a way or a relation, an int64, which must be there
-abbrev pub int64_id : List Field → Result ℤ EntityFault
-int64_id parts = ok_or (option_map int64 (number_of 1 parts)) missing
+-- the int64 in the field with this number, which must be there
+abbrev pub int64_at : ℕ → List Field → Result ℤ EntityFault
+int64_at k fs = ok_or (option_map int64 (number_of k fs)) Missing
 
 -- the object of a Way message, or its first fault before the order
 unfoldable pub way_object : PrimitiveBlock → List ℕ → Result Object EntityFault
 way_object in_block bytes = do
-  parts ← told_as wire (message way_table bytes)
-  id ← int64_id parts
-  Ok (record { kind = kinds.Way; id = id; entity = way_of id (column (signed_of 8 parts)) (indexed_tags in_block.strings (packed_of 2 parts) (packed_of 3 parts)) })
+  fs ← told_as Wire (message WAY bytes)
+  id ← int64_at WAY_ID fs
+  Ok (record { kind = kinds.Way; id = id; entity = way_of id (running_sums (packed_sint64_of WAY_REFS fs)) (indexed_tags in_block.strings (packed_of WAY_KEYS fs) (packed_of WAY_VALS fs)) })
 
 -- ---- relations
 
@@ -216,21 +195,21 @@ abbrev pub kind_at : ℕ → Result EntityKind EntityFault
 kind_at zero = Ok kinds.Node
 kind_at (suc zero) = Ok kinds.Way
 kind_at (suc (suc zero)) = Ok kinds.Relation
-kind_at (suc (suc (suc k))) = Err member_kind
+kind_at (suc (suc (suc k))) = Err MemberKind
 
 -- the member of a role's index, an id, which is a sum of differences, and a type
 abbrev pub member_at : List (List ℕ) → ℕ × ℤ × ℕ → Result Member EntityFault
 member_at strings (role_index, id, type) = do
   role ← string_at strings role_index
-  _ ← require (is_signed_64 id) range
+  _ ← require (is_signed_64 id) Range
   kind ← kind_at type
   Ok (record { kind = kind; id = id; role = role })
 
 -- the members of three columns
 abbrev pub members_of : List (List ℕ) → List ℕ → List ℤ → List ℕ → Result (List Member) EntityFault
 members_of strings roles ids types = do
-  _ ← require ((length roles == length ids) && (length roles == length types)) columns
-  each (member_at strings) (zip_three roles (column ids) types)
+  _ ← require ((length roles == length ids) && (length roles == length types)) Columns
+  each (member_at strings) (zip_three roles (running_sums ids) types)
 
 -- the relation of an id, its members and its tags
 abbrev pub relation_of : ℤ → Result (List Member) EntityFault → Result Tags EntityFault → Result Entity EntityFault
@@ -242,19 +221,19 @@ relation_of id told_members told_tags = do
 -- the object of a Relation message, or its first fault before the order
 unfoldable pub relation_object : PrimitiveBlock → List ℕ → Result Object EntityFault
 relation_object in_block bytes = do
-  parts ← told_as wire (message relation_table bytes)
-  id ← int64_id parts
-  Ok (record { kind = kinds.Relation; id = id; entity = relation_of id (members_of in_block.strings (packed_of 8 parts) (signed_of 9 parts) (packed_of 10 parts)) (indexed_tags in_block.strings (packed_of 2 parts) (packed_of 3 parts)) })
+  fs ← told_as Wire (message RELATION bytes)
+  id ← int64_at RELATION_ID fs
+  Ok (record { kind = kinds.Relation; id = id; entity = relation_of id (members_of in_block.strings (packed_of RELATION_ROLES_SID fs) (packed_sint64_of RELATION_MEMIDS fs) (packed_of RELATION_TYPES fs)) (indexed_tags in_block.strings (packed_of RELATION_KEYS fs) (packed_of RELATION_VALS fs)) })
 
 -- ---- groups
 
 -- the objects of a group's field with this number and these bytes; changesets are passed over
 abbrev pub objects_at : PrimitiveBlock → ℕ → List ℕ → List (Result Object EntityFault)
 objects_at in_block k bytes =
-    if k == 1 then node_object in_block bytes ∷ []
-    else (if k == 2 then dense_objects in_block bytes
-    else (if k == 3 then way_object in_block bytes ∷ []
-    else (if k == 4 then relation_object in_block bytes ∷ []
+    if k == GROUP_NODES then node_object in_block bytes ∷ []
+    else (if k == GROUP_DENSE then dense_objects in_block bytes
+    else (if k == GROUP_WAYS then way_object in_block bytes ∷ []
+    else (if k == GROUP_RELATIONS then relation_object in_block bytes ∷ []
     else [])))
 
 -- the objects of a group's field
@@ -268,20 +247,20 @@ are_one (k ∷ ks) = list_all (λ j. j == k) ks
 
 -- the numbers 1 to 5 of the fields of a group, each as often as it stands
 abbrev pub kinds_in : List Field → List ℕ
-kinds_in parts = filter (λ k. nat_le 1 k && nat_le k 5) (map (λ (f : Field). f.number) parts)
+kinds_in fs = filter (λ k. nat_le GROUP_NODES k && nat_le k GROUP_CHANGESETS) (map (λ (f : Field). f.number) fs)
 
 -- the fields of a group, or its first fault
 abbrev pub group_fields : List ℕ → Result (List Field) EntityFault
 group_fields bytes = do
-  parts ← told_as wire (message primitive_group bytes)
-  _ ← require (are_one (kinds_in parts)) mixed_group
-  Ok parts
+  fs ← told_as Wire (message PRIMITIVE_GROUP bytes)
+  _ ← require (are_one (kinds_in fs)) MixedGroup
+  Ok fs
 
 -- the objects of a group, in the order of the bytes
 unfoldable pub group_objects : PrimitiveBlock → List ℕ → List (Result Object EntityFault)
 group_objects in_block bytes =
     elim (group_fields bytes) [
-      | Ok parts ↦ flat_map (field_objects in_block) parts
+      | Ok fs ↦ flat_map (field_objects in_block) fs
       | Err fault ↦ Err fault ∷ []
     ]
 

@@ -4,9 +4,11 @@ use Rattle.std.specs.List.{list_any, last_or, All, AllPairs}
 use Rattle.mf_base.specs.Steps.{◌>>=◌, refuse}
 use Rattle.mf_base.specs.declared.kind.EntityKind.{EntityKind}
 use Rattle.mf_base.specs.declared.kind.EntityKind.TheVariants as kinds
+use Rattle.osm_model.specs.declared.faults.EntityFault.{EntityFault}
+use Rattle.osm_model.specs.declared.faults.EntityFault.TheVariants.{KindOrder, OutOfOrder}
 use Rattle.osm_model.specs.Reading.{Reading, all_read, stops_at, then_reads}
 use Rattle.osm_model.specs.Entities.{Entity, kind_of, id_of}
-use Rattle.osm_model.specs.Objects.{EntityFault, kind_order, out_of_order, Object}
+use Rattle.osm_model.specs.Objects.{Object}
 
 -- the order of kinds: nodes, then ways, then relations
 abbrev pub rank : EntityKind → ℕ
@@ -29,12 +31,12 @@ last_id kind entities = unwrap_or (last_or None (ids_of kind entities)) 0
 -- The fault of an object of this kind and id behind these objects.
 abbrev pub order_fault : List Entity → EntityKind → ℤ → Option EntityFault
 order_fault before kind id =
-    if has_later_kind kind before then Some kind_order
-    else (if int_le id (pos (last_id kind before)) then Some (out_of_order (last_id kind before) id) else None)
+    if has_later_kind kind before then Some KindOrder
+    else (if int_le id (pos (last_id kind before)) then Some (OutOfOrder (last_id kind before) id) else None)
 
 -- an object behind these objects, or its first fault
-abbrev pub placed : List Entity → Object → Result Entity EntityFault
-placed before object = do
+abbrev pub entity_behind : List Entity → Object → Result Entity EntityFault
+entity_behind before object = do
   _ ← refuse (order_fault before object.kind object.id)
   object.entity
 
@@ -43,14 +45,14 @@ unfoldable pub in_order : List Entity → List (Result Object EntityFault) → R
 in_order before [] = all_read
 in_order before (Err fault ∷ others) = stops_at fault
 in_order before (Ok object ∷ others) =
-    elim (placed before object) [
+    elim (entity_behind before object) [
       | Ok e ↦ then_reads e (in_order (before ++ e ∷ []) others)
       | Err fault ↦ stops_at fault
     ]
 
 -- the kind and the id of an object
-abbrev pub key_of : Entity → EntityKind × ℕ
-key_of e = (kind_of e, id_of e)
+abbrev pub kind_and_id : Entity → EntityKind × ℕ
+kind_and_id e = (kind_of e, id_of e)
 
 -- The first kind and id may stand before the second: the kind is no later one, and where both are of one kind the id is smaller.
 abbrev pub Precedes : EntityKind × ℕ → EntityKind × ℕ → Type 0
@@ -62,4 +64,4 @@ AreInOrder tells xs = AllPairs (λ a b. Precedes (tells a) (tells b)) xs
 
 -- Each id is above 0, and the objects are in order.
 abbrev pub IsRising : List Entity → Type 0
-IsRising es = All (λ e. 0 < id_of e) es × AreInOrder key_of es
+IsRising es = All (λ e. 0 < id_of e) es × AreInOrder kind_and_id es

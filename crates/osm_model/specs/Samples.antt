@@ -5,11 +5,12 @@ use Rattle.mf_base.specs.Texts.{Text}
 use Rattle.mf_base.specs.declared.place.Place.{Place}
 use Rattle.mf_base.specs.declared.place.Rect.{Rect}
 use Rattle.mf_base.specs.declared.kind.EntityKind.{EntityKind}
-use Rattle.osm_model.specs.Frames.{FrameFault}
-use Rattle.osm_model.specs.Blocks.{BlockFault}
+use Rattle.osm_model.specs.declared.faults.FrameFault.{FrameFault}
+use Rattle.osm_model.specs.declared.faults.BlockFault.{BlockFault}
+use Rattle.osm_model.specs.declared.faults.EntityFault.{EntityFault}
+use Rattle.osm_model.specs.declared.faults.InputFault.{InputFault}
+use Rattle.osm_model.specs.declared.faults.InputCode.TheVariants as input_codes
 use Rattle.osm_model.specs.Entities.{Member, Entity, node, way, relation}
-use Rattle.osm_model.specs.Objects.{EntityFault}
-use Rattle.osm_model.specs.Input.{InputFault, of_frame, of_block, of_entity}
 use Prim.Native.String.{String}
 
 -- ---- bytes and blobs
@@ -29,32 +30,32 @@ abbrev pub hex : String → List ℕ
 hex digits = bytes_of_digits (codes digits)
 
 -- a field of number k with fewer than 128 bytes
-abbrev pub part : ℕ → List ℕ → List ℕ
-part k bytes = (8 * k + 2) ∷ length bytes ∷ bytes
+abbrev pub len_field : ℕ → List ℕ → List ℕ
+len_field k bytes = (8 * k + 2) ∷ length bytes ∷ bytes
 
 -- a blob of this type, whose Blob message has fewer than 128 bytes
 abbrev pub blob_of : String → List ℕ → List ℕ
-blob_of kind body = (0 ∷ 0 ∷ 0 ∷ (length (codes kind) + 4) ∷ []) ++ part 1 (codes kind) ++ (0x18 ∷ length body ∷ []) ++ body
+blob_of kind body = (0 ∷ 0 ∷ 0 ∷ (length (codes kind) + 4) ∷ []) ++ len_field 1 (codes kind) ++ (0x18 ∷ length body ∷ []) ++ body
 
 -- a blob of a HeaderBlock of these bytes
 abbrev pub header_blob : List ℕ → List ℕ
-header_blob raw = blob_of "OSMHeader" (part 1 raw)
+header_blob raw = blob_of "OSMHeader" (len_field 1 raw)
 
 -- a header with a bbox of these sides, left, right, top and bottom, each a sint64 of nanodegrees in hexadecimal digits
 abbrev pub boxed : String → String → String → String → List ℕ
-boxed left right top bottom = header_blob (part 1 (hex "08" ++ hex left ++ hex "10" ++ hex right ++ hex "18" ++ hex top ++ hex "20" ++ hex bottom))
+boxed left right top bottom = header_blob (len_field 1 (hex "08" ++ hex left ++ hex "10" ++ hex right ++ hex "18" ++ hex top ++ hex "20" ++ hex bottom))
 
 -- a blob of a PrimitiveBlock of these bytes
 abbrev pub raw_blob : List ℕ → List ℕ
-raw_blob raw = blob_of "OSMData" (part 1 raw)
+raw_blob raw = blob_of "OSMData" (len_field 1 raw)
 
 -- a StringTable as the first field of its block
 abbrev pub string_field : List Text → List ℕ
-string_field texts = part 1 (flat_map (part 1) texts)
+string_field texts = len_field 1 (flat_map (len_field 1) texts)
 
 -- a blob of strings and one group
 abbrev pub block_blob : List Text → List ℕ → List ℕ
-block_blob texts group = raw_blob (string_field texts ++ part 2 group)
+block_blob texts group = raw_blob (string_field texts ++ len_field 2 group)
 
 -- the number -2^63 as a sint64
 abbrev pub least_number : List ℕ
@@ -68,15 +69,15 @@ half_of_range = replicate 9 0x80 ++ hex "01"
 
 -- a fault of the blob at this offset
 abbrev pub in_frame : ℕ → FrameFault → Option InputFault
-in_frame at fault = Some (record { at = at; code = of_frame fault })
+in_frame at fault = Some (record { at = at; code = input_codes.Frame fault })
 
 -- a fault of what the block in the blob at this offset has before its objects
 abbrev pub in_block : ℕ → BlockFault → Option InputFault
-in_block at fault = Some (record { at = at; code = of_block fault })
+in_block at fault = Some (record { at = at; code = input_codes.Block fault })
 
 -- a fault of an object in the blob at this offset
 abbrev pub in_entity : ℕ → EntityFault → Option InputFault
-in_entity at fault = Some (record { at = at; code = of_entity fault })
+in_entity at fault = Some (record { at = at; code = input_codes.Entity fault })
 
 -- ---- what an input spells
 
@@ -105,22 +106,22 @@ abbrev pub node_at : ℕ → Place → Tags → Entity
 node_at id place tags = node (record { id = id; place = place; tags = tags })
 
 -- a way of this id, these refs and tags
-abbrev pub way_of : ℕ → List ℤ → Tags → Entity
-way_of id refs tags = way (record { id = id; refs = refs; tags = tags })
+abbrev pub way_at : ℕ → List ℤ → Tags → Entity
+way_at id refs tags = way (record { id = id; refs = refs; tags = tags })
 
 -- a member of this kind, id and role
 abbrev pub member_of : EntityKind → ℤ → Text → Member
 member_of kind id role = record { kind = kind; id = id; role = role }
 
 -- a relation of this id, these members and tags
-abbrev pub relation_of : ℕ → List Member → Tags → Entity
-relation_of id members tags = relation (record { id = id; members = members; tags = tags })
+abbrev pub relation_at : ℕ → List Member → Tags → Entity
+relation_at id members tags = relation (record { id = id; members = members; tags = tags })
 
 -- ---- one bench
 
 -- a HeaderBlock with a box of one degree each way and the two required features
 abbrev pub header_raw : List ℕ
-header_raw = part 1 (hex "08 FF A7 D6 B9 07 10 80 A8 D6 B9 07 18 80 A8 D6 B9 07 20 FF A7 D6 B9 07") ++ part 4 (codes "OsmSchema-V0.6") ++ part 4 (codes "DenseNodes")
+header_raw = len_field 1 (hex "08 FF A7 D6 B9 07 10 80 A8 D6 B9 07 18 80 A8 D6 B9 07 20 FF A7 D6 B9 07") ++ len_field 4 (codes "OsmSchema-V0.6") ++ len_field 4 (codes "DenseNodes")
 
 -- its blob of 73 bytes
 abbrev pub header_alone : List ℕ
@@ -136,7 +137,7 @@ data_blob group = block_blob bench_texts group
 
 -- one dense node at (0, 0) with the tag amenity=bench
 abbrev pub bench_group : List ℕ
-bench_group = part 2 (hex "0A 01 02 42 01 00 4A 01 00 52 03 01 02 00")
+bench_group = len_field 2 (hex "0A 01 02 42 01 00 4A 01 00 52 03 01 02 00")
 
 -- the input of 128 bytes
 abbrev pub one_bench : List ℕ
@@ -156,24 +157,24 @@ bench id = node_at id at_zero bench_tags
 
 -- the bench as a plain node
 abbrev pub plain_group : List ℕ
-plain_group = part 1 (hex "08 02 12 01 01 1A 01 02 40 00 48 00")
+plain_group = len_field 1 (hex "08 02 12 01 01 1A 01 02 40 00 48 00")
 
 -- a plain node with id 1 at (0, 0) without tags
 abbrev pub node_group : List ℕ
-node_group = part 1 (hex "08 02 40 00 48 00")
+node_group = len_field 1 (hex "08 02 40 00 48 00")
 
 -- a way with id 1
 abbrev pub way_group : List ℕ
-way_group = part 3 (hex "08 01")
+way_group = len_field 3 (hex "08 01")
 
 -- dense nodes with ids 5 and 5
 abbrev pub twice_five : List ℕ
-twice_five = part 2 (hex "0A 02 0A 00 42 02 00 00 4A 02 00 00")
+twice_five = len_field 2 (hex "0A 02 0A 00 42 02 00 00 4A 02 00 00")
 
 -- one bench of the name Spring
 abbrev pub bench_with_name : List ℕ
 bench_with_name =
-    header_alone ++ block_blob ([] ∷ codes "amenity" ∷ codes "bench" ∷ codes "name" ∷ codes "Spring" ∷ []) (part 1 (hex "08 02 12 02 01 03 1A 02 02 04 40 00 48 00"))
+    header_alone ++ block_blob ([] ∷ codes "amenity" ∷ codes "bench" ∷ codes "name" ∷ codes "Spring" ∷ []) (len_field 1 (hex "08 02 12 02 01 03 1A 02 02 04 40 00 48 00"))
 
 -- ---- nodes, ways and relations
 
@@ -184,7 +185,7 @@ short_texts = [] ∷ codes "k" ∷ hex "C3 A9" ∷ codes "vv" ∷ []
 -- three dense nodes: one with a tag, one without, one with two; granularity 1000, offsets -5 and 77 nanodegrees
 abbrev pub dense_three : List ℕ
 dense_three =
-    raw_blob (string_field short_texts ++ part 2 (part 2 (hex "0A 03 04 06 02 42 03 14 09 0E 4A 03 02 02 02 52 09 01 02 00 00 03 01 02 00 00"))
+    raw_blob (string_field short_texts ++ len_field 2 (len_field 2 (hex "0A 03 04 06 02 42 03 14 09 0E 4A 03 02 02 02 52 09 01 02 00 00 03 01 02 00 00"))
     ++ hex "88 01 E8 07 98 01 FB" ++ replicate 8 0xFF ++ hex "01 A0 01 4D")
 
 -- what it spells
@@ -198,23 +199,23 @@ dense_three_entities =
 -- two ways in a block and a relation in the next
 abbrev pub ways_and_relation : List ℕ
 ways_and_relation =
-    block_blob short_texts (part 3 (hex "08 04 12 02 01 03 1A 02 02 01 42 03 04 06 09") ++ part 3 (hex "08 09 42 00"))
-    ++ block_blob short_texts (part 4 (hex "08 05 12 01 01 1A 01 03 42 03 01 02 00 4A 03 08 11 0A 52 03 00 01 02"))
+    block_blob short_texts (len_field 3 (hex "08 04 12 02 01 03 1A 02 02 01 42 03 04 06 09") ++ len_field 3 (hex "08 09 42 00"))
+    ++ block_blob short_texts (len_field 4 (hex "08 05 12 01 01 1A 01 03 42 03 01 02 00 4A 03 08 11 0A 52 03 00 01 02"))
 
 -- what it spells
 abbrev pub ways_and_relation_entities : List Entity
 ways_and_relation_entities =
-    way_of 4 (pos 2 ∷ pos 5 ∷ pos 0 ∷ []) ((codes "k", hex "C3 A9") ∷ (codes "vv", codes "k") ∷ [])
-    ∷ way_of 9 [] []
-    ∷ relation_of 5 (member_of EntityKind.Node (pos 4) (codes "k") ∷ member_of EntityKind.Way (negsuc 4) (hex "C3 A9") ∷ member_of EntityKind.Relation (pos 0) [] ∷ []) ((codes "k", codes "vv") ∷ [])
+    way_at 4 (pos 2 ∷ pos 5 ∷ pos 0 ∷ []) ((codes "k", hex "C3 A9") ∷ (codes "vv", codes "k") ∷ [])
+    ∷ way_at 9 [] []
+    ∷ relation_at 5 (member_of EntityKind.Node (pos 4) (codes "k") ∷ member_of EntityKind.Way (negsuc 4) (hex "C3 A9") ∷ member_of EntityKind.Relation (pos 0) [] ∷ []) ((codes "k", codes "vv") ∷ [])
     ∷ []
 
 -- a path of four refs, of which the third is no node
 abbrev pub missing_node : List ℕ
 missing_node =
     header_alone
-    ++ block_blob ([] ∷ []) (part 1 (hex "08 02 40 00 48 00") ++ part 1 (hex "08 04 40 00 48 64") ++ part 1 (hex "08 08 40 64 48 64"))
-    ++ block_blob ([] ∷ codes "highway" ∷ codes "path" ∷ []) (part 3 (hex "08 01 12 01 01 1A 01 02 42 04 02 02 02 02"))
+    ++ block_blob ([] ∷ []) (len_field 1 (hex "08 02 40 00 48 00") ++ len_field 1 (hex "08 04 40 00 48 64") ++ len_field 1 (hex "08 08 40 64 48 64"))
+    ++ block_blob ([] ∷ codes "highway" ∷ codes "path" ∷ []) (len_field 3 (hex "08 01 12 01 01 1A 01 02 42 04 02 02 02 02"))
 
 -- what it spells
 abbrev pub missing_node_entities : List Entity
@@ -222,7 +223,7 @@ missing_node_entities =
     node_at 1 at_zero []
     ∷ node_at 2 (at (pos 0) (pos 5)) []
     ∷ node_at 4 (at (pos 5) (pos 5)) []
-    ∷ way_of 1 (map pos (1 ∷ 2 ∷ 3 ∷ 4 ∷ [])) ((codes "highway", codes "path") ∷ [])
+    ∷ way_at 1 (map pos (1 ∷ 2 ∷ 3 ∷ 4 ∷ [])) ((codes "highway", codes "path") ∷ [])
     ∷ []
 
 -- a forest: three outer ways that make a ring, and an inner ring of one way
@@ -230,15 +231,15 @@ abbrev pub ring_of_three_ways : List ℕ
 ring_of_three_ways =
     header_alone
     ++ block_blob ([] ∷ []) (
-    part 1 (hex "08 02 40 00 48 00") ++ part 1 (hex "08 04 40 00 48 90 03") ++ part 1 (hex "08 06 40 90 03 48 C8 01")
-    ++ part 1 (hex "08 08 40 3C 48 A0 01") ++ part 1 (hex "08 0A 40 3C 48 F0 01") ++ part 1 (hex "08 0C 40 78 48 C8 01"))
-    ++ block_blob ([] ∷ []) (part 3 (hex "08 01 42 02 02 02") ++ part 3 (hex "08 02 42 02 06 01") ++ part 3 (hex "08 03 42 02 06 03") ++ part 3 (hex "08 04 42 04 08 02 02 03"))
+    len_field 1 (hex "08 02 40 00 48 00") ++ len_field 1 (hex "08 04 40 00 48 90 03") ++ len_field 1 (hex "08 06 40 90 03 48 C8 01")
+    ++ len_field 1 (hex "08 08 40 3C 48 A0 01") ++ len_field 1 (hex "08 0A 40 3C 48 F0 01") ++ len_field 1 (hex "08 0C 40 78 48 C8 01"))
+    ++ block_blob ([] ∷ []) (len_field 3 (hex "08 01 42 02 02 02") ++ len_field 3 (hex "08 02 42 02 06 01") ++ len_field 3 (hex "08 03 42 02 06 03") ++ len_field 3 (hex "08 04 42 04 08 02 02 03"))
     ++ block_blob ([] ∷ codes "type" ∷ codes "multipolygon" ∷ codes "landuse" ∷ codes "forest" ∷ codes "outer" ∷ codes "inner" ∷ [])
-    (part 4 (hex "08 01 12 02 01 03 1A 02 02 04 42 04 05 05 05 06 4A 04 02 02 02 02 52 04 01 01 01 01"))
+    (len_field 4 (hex "08 01 12 02 01 03 1A 02 02 04 42 04 05 05 05 06 4A 04 02 02 02 02 52 04 01 01 01 01"))
 
 -- a way of these nodes without tags
 abbrev pub way_through : ℕ → List ℕ → Entity
-way_through id refs = way_of id (map pos refs) []
+way_through id refs = way_at id (map pos refs) []
 
 -- a way as a member with this role
 abbrev pub way_member : ℕ → String → Member
@@ -257,7 +258,7 @@ forest_entities =
     ∷ way_through 2 (3 ∷ 2 ∷ [])
     ∷ way_through 3 (3 ∷ 1 ∷ [])
     ∷ way_through 4 (4 ∷ 5 ∷ 6 ∷ 4 ∷ [])
-    ∷ relation_of 1 (way_member 1 "outer" ∷ way_member 2 "outer" ∷ way_member 3 "outer" ∷ way_member 4 "inner" ∷ [])
+    ∷ relation_at 1 (way_member 1 "outer" ∷ way_member 2 "outer" ∷ way_member 3 "outer" ∷ way_member 4 "inner" ∷ [])
     ((codes "type", codes "multipolygon") ∷ (codes "landuse", codes "forest") ∷ [])
     ∷ []
 
@@ -266,9 +267,9 @@ abbrev pub water_tile : List ℕ
 water_tile =
     header_alone
     ++ block_blob ([] ∷ []) (
-    part 1 (hex "08 02 40 FF C1 D7 2F 48 80 C2 D7 2F") ++ part 1 (hex "08 04 40 FF C1 D7 2F 48 80 D8 83 8B 02")
-    ++ part 1 (hex "08 06 40 80 A0 CB 98 01 48 80 D8 83 8B 02") ++ part 1 (hex "08 08 40 80 A0 CB 98 01 48 80 C2 D7 2F"))
-    ++ block_blob ([] ∷ codes "natural" ∷ codes "water" ∷ []) (part 3 (hex "08 01 12 01 01 1A 01 02 42 05 02 02 02 02 05"))
+    len_field 1 (hex "08 02 40 FF C1 D7 2F 48 80 C2 D7 2F") ++ len_field 1 (hex "08 04 40 FF C1 D7 2F 48 80 D8 83 8B 02")
+    ++ len_field 1 (hex "08 06 40 80 A0 CB 98 01 48 80 D8 83 8B 02") ++ len_field 1 (hex "08 08 40 80 A0 CB 98 01 48 80 C2 D7 2F"))
+    ++ block_blob ([] ∷ codes "natural" ∷ codes "water" ∷ []) (len_field 3 (hex "08 01 12 01 01 1A 01 02 42 05 02 02 02 02 05"))
 
 -- what it spells
 abbrev pub water_tile_entities : List Entity
@@ -277,12 +278,12 @@ water_tile_entities =
     ∷ node_at 2 (at (negsuc 4999999) (pos 28000000)) []
     ∷ node_at 3 (at (pos 16000000) (pos 28000000)) []
     ∷ node_at 4 (at (pos 16000000) (pos 5000000)) []
-    ∷ way_of 1 (map pos (1 ∷ 2 ∷ 3 ∷ 4 ∷ 1 ∷ [])) ((codes "natural", codes "water") ∷ [])
+    ∷ way_at 1 (map pos (1 ∷ 2 ∷ 3 ∷ 4 ∷ 1 ∷ [])) ((codes "natural", codes "water") ∷ [])
     ∷ []
 
 -- two dense nodes with id 5, the first of a long name
 abbrev pub fault_before_limit : List ℕ
 fault_before_limit =
-    header_alone ++ hex "00 00 00 0C" ++ part 1 (codes "OSMData") ++ hex "18 8A 07 0A 87 07 0A EC 06"
-    ++ part 1 [] ++ part 1 (codes "amenity") ++ part 1 (codes "bench") ++ part 1 (codes "name") ++ hex "0A D1 06" ++ replicate 849 0x6E
-    ++ part 2 (part 2 (hex "0A 02 0A 00 42 02 00 00 4A 02 00 00 52 06 01 02 03 04 00 00"))
+    header_alone ++ hex "00 00 00 0C" ++ len_field 1 (codes "OSMData") ++ hex "18 8A 07 0A 87 07 0A EC 06"
+    ++ len_field 1 [] ++ len_field 1 (codes "amenity") ++ len_field 1 (codes "bench") ++ len_field 1 (codes "name") ++ hex "0A D1 06" ++ replicate 849 0x6E
+    ++ len_field 2 (len_field 2 (hex "0A 02 0A 00 42 02 00 00 4A 02 00 00 52 06 01 02 03 04 00 00"))

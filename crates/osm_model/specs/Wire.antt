@@ -5,6 +5,9 @@ use Rattle.std.specs.Int.{w64, cast_signed}
 use Rattle.mf_base.specs.Spelling.{IsVarint, high_run, sevens}
 use Rattle.mf_base.specs.Steps.{◌>>=◌, require, told_as}
 use Rattle.mf_base.specs.NumberReading.{varint_front}
+use Rattle.osm_model.specs.declared.limits.TheConstants.{FIELD_NUMBER_LIMIT}
+use Rattle.osm_model.specs.declared.faults.WireFault.{WireFault}
+use Rattle.osm_model.specs.declared.faults.WireFault.TheVariants.{Varint, Length, Kind}
 use Rattle.osm_model.specs.Reading.{Reading, AreSpelled, all_read, stops_at, then_reads}
 
 -- The value of a field, under the name of its wire type: VARINT 0, I64 1, LEN 2, I32 5.
@@ -27,8 +30,8 @@ wire_type (len bytes) = 2
 wire_type (i32 bytes) = 5
 
 -- the key before a field's value: 8 times the field's number, and the wire type
-abbrev pub key_of : Field → ℕ
-key_of f = 8 * f.number + wire_type f.value
+abbrev pub field_key : Field → ℕ
+field_key f = 8 * f.number + wire_type f.value
 
 -- The bytes spell the value: a varint, eight or four bytes, or the varint of a length and so many bytes.
 abbrev pub SpellsValue : Value → List ℕ → Type 0
@@ -40,8 +43,8 @@ SpellsValue (i32 bytes) b = (length bytes ≡ 4) × (b ≡ bytes)
 -- The bytes spell the field: its key, then its value. A field's number is in 1 to 2^29 - 1.
 pub record SpellsField (f : Field) (b : List ℕ) : Type 0 where
   pub least : 1 ≤ f.number
-  pub most : f.number < 2 ^ 29
-  pub spelled : (key : List ℕ) × (rest : List ℕ) × IsVarint (key_of f) key × SpellsValue f.value rest × (b ≡ key ++ rest)
+  pub most : f.number < FIELD_NUMBER_LIMIT
+  pub spelled : (key : List ℕ) × (rest : List ℕ) × IsVarint (field_key f) key × SpellsValue f.value rest × (b ≡ key ++ rest)
 
 -- A message is the spellings of its fields, one after another.
 abbrev pub IsMessage : List ℕ → List Field → Type 0
@@ -51,24 +54,15 @@ IsMessage b fs = AreSpelled SpellsField b fs
 abbrev pub IsPacked : List ℕ → List ℕ → Type 0
 IsPacked b ns = AreSpelled IsVarint b ns
 
--- Why the bytes begin with no field.
-pub data WireFault : Type 0 where
-  -- a varint is cut by the end, or is no number below 2^64 in ten bytes
-  varint_fault : WireFault
-  -- a field number or a wire type that does not exist
-  kind_fault : WireFault
-  -- the bytes end within a value
-  length_fault : WireFault
-
 -- the varint that the bytes begin with, and how many bytes it takes
 abbrev pub number_front : List ℕ → Result (ℕ × ℕ) WireFault
-number_front bytes = told_as (λ fault. varint_fault) (varint_front bytes)
+number_front bytes = told_as (λ fault. Varint) (varint_front bytes)
 
 -- a value of so many bytes from a place on, and where it ends
 abbrev pub bytes_front : (List ℕ → Value) → ℕ → ℕ → List ℕ → Result (Value × ℕ) WireFault
-bytes_front kind count at bytes = do
-  _ ← require (nat_le (at + count) (length bytes)) length_fault
-  Ok (kind (take count (drop at bytes)), at + count)
+bytes_front tell count at bytes = do
+  _ ← require (nat_le (at + count) (length bytes)) Length
+  Ok (tell (take count (drop at bytes)), at + count)
 
 -- a VARINT value, and how many bytes it takes
 abbrev pub varint_value : List ℕ → Result (Value × ℕ) WireFault
@@ -89,13 +83,13 @@ value_front type bytes =
     else (if type == 1 then bytes_front i64 8 0 bytes
     else (if type == 2 then len_value bytes
     else (if type == 5 then bytes_front i32 4 0 bytes
-    else Err kind_fault)))
+    else Err Kind)))
 
 -- the field that the bytes begin with, and how many bytes it takes, or the first fault in it
 unfoldable pub field_front : List ℕ → Result (Field × ℕ) WireFault
 field_front bytes = do
   key ← number_front bytes
-  _ ← require (nat_le 1 (key.0 / 8) && nat_lt (key.0 / 8) (2 ^ 29)) kind_fault
+  _ ← require (nat_le 1 (key.0 / 8) && nat_lt (key.0 / 8) FIELD_NUMBER_LIMIT) Kind
   value ← value_front (key.0 % 8) (drop key.1 bytes)
   Ok (record { number = key.0 / 8; value = value.0 }, key.1 + value.1)
 

@@ -3,12 +3,19 @@
 ghost use Rattle.std.specs.Prelude.{◌≡◌, ◌||◌, ◌==◌, if◌then◌else◌, nat_lt, ◌≤◌, ◌+◌, ◌↔◌, Err, ℕ, List, [], ◌∷◌, ◌++◌, take, length, pos, ◌+ℤ◌, ◌<◌, suc, ℤ, true, Option, Result, filter_map, slice_index_or};
 ghost use Rattle.mf_base.specs.Spelling.{IsBytes};
 ghost use Rattle.mf_base.specs.declared.kind.EntityKind.{EntityKind};
-ghost use Rattle.osm_model.specs.Wire.{Field, WireFault, IsMessage, ReadsFields, fields, IsPacked, are_varints, packed_numbers};
-ghost use Rattle.osm_model.specs.Tables.{Table, FitsTable, message, string_table, bytes_of};
+ghost use Rattle.osm_model.specs.declared.limits.TheConstants.{FRAME_LIMIT, STRINGS_LIMIT};
+ghost use Rattle.osm_model.specs.declared.numbers.TheConstants.{STRINGTABLE_S};
+ghost use Rattle.osm_model.specs.declared.tables.TheConstants.{STRING_TABLE};
+ghost use Rattle.osm_model.specs.declared.faults.WireFault.{WireFault};
+ghost use Rattle.osm_model.specs.declared.faults.EntityFault.{EntityFault};
+ghost use Rattle.osm_model.specs.declared.faults.InputFault.{InputFault};
+ghost use Rattle.osm_model.specs.declared.faults.BlockFault.TheVariants as block_faults;
+ghost use Rattle.osm_model.specs.Wire.{Field, IsMessage, ReadsFields, fields, IsPacked, are_varints, packed_numbers};
+ghost use Rattle.osm_model.specs.Tables.{Table, FitsTable, message, bytes_of};
 ghost use Rattle.osm_model.specs.Frames.{Content, SpellsFrame, LeadsTo, PassesOver, frames_at, next_known, Frame, FrameFaultAt, ReadsFrames, frames};
-ghost use Rattle.osm_model.specs.Blocks.{PrimitiveBlock, block, strings_in, too_many_strings};
-ghost use Rattle.osm_model.specs.Objects.{column, column_from, block_objects, int_sum, Object, EntityFault, told_entity, tag_runs, pairs_spelled, HasKeys, by_zero, with_list, behind_key};
-ghost use Rattle.osm_model.specs.Input.{input_fault, input_entities, block_fault, raw_entities, ReadsInput, good_frames, InputFault};
+ghost use Rattle.osm_model.specs.Blocks.{PrimitiveBlock, block, strings_in};
+ghost use Rattle.osm_model.specs.Objects.{running_sums, running_sums_from, block_objects, int_sum, Object, told_entity, tag_runs, pairs_spelled, HasKeys, by_zero, with_list, behind_key};
+ghost use Rattle.osm_model.specs.Input.{input_fault, input_entities, block_fault, entities_in, ReadsInput, good_frames};
 ghost use Rattle.osm_model.specs.Reading.{Reading, with_front};
 ghost use Rattle.osm_model.specs.Order.{IsRising, in_order, rank, last_id, has_later_kind};
 ghost use Rattle.osm_model.specs.Entities.{Entity, kind_of, id_of};
@@ -33,7 +40,7 @@ pub fn one_message_of_a_table()
 
 /// A string table is refused for the number of its entries exactly where they are more than the limit.
 pub fn strings_over_the_limit()
-    ensures { (table : List ℕ) (fs : List Field) → message string_table table ≡ Ok fs → ((strings_in table ≡ Err too_many_strings) ↔ (4194304 < length (bytes_of 1 fs))) }
+    ensures { (table : List ℕ) (fs : List Field) → message STRING_TABLE table ≡ Ok fs → ((strings_in table ≡ Err block_faults.TooManyStrings) ↔ (STRINGS_LIMIT < length (bytes_of STRINGTABLE_S fs))) }
 {}
 
 /// What is read of an input is blobs in front and the first fault behind them, and nothing else is.
@@ -48,15 +55,15 @@ pub fn next_blob()
     ensures led { (at : ℕ) (bytes : List ℕ) (f : Frame) → IsBytes bytes → next_known (frames_at at bytes) ≡ Ok (Some f) → (front : List ℕ) × (rest : List ℕ) × LeadsTo at front f × (bytes ≡ front ++ rest) }
     ensures passes { (at : ℕ) (front rest : List ℕ) → PassesOver at front → next_known (frames_at at (front ++ rest)) ≡ next_known (frames_at (at + length front) rest) }
     ensures passed { (at : ℕ) (bytes : List ℕ) → IsBytes bytes → next_known (frames_at at bytes) ≡ Ok None → PassesOver at bytes }
-    ensures size { (content : Content) (bytes : List ℕ) → SpellsFrame content bytes → length bytes ≤ 4 + 65535 + 33554432 }
+    ensures size { (content : Content) (bytes : List ℕ) → SpellsFrame content bytes → length bytes ≤ FRAME_LIMIT }
 {}
 
 /// A number of a delta column is the sum of the differences up to it.
 pub fn column_of_sums()
-    ensures length { (ds : List ℤ) → length (column ds) ≡ length ds }
-    ensures sums { (ds : List ℤ) (i : ℕ) (d : ℤ) → i < length ds → slice_index_or (column ds) i d ≡ int_sum (take (suc i) ds) }
-    ensures begins { (ds : List ℤ) → column_from (pos 0) ds ≡ column ds }
-    ensures runs_on { (base d : ℤ) (ds : List ℤ) → column_from base (d ∷ ds) ≡ (base +ℤ d) ∷ column_from (base +ℤ d) ds }
+    ensures length { (ds : List ℤ) → length (running_sums ds) ≡ length ds }
+    ensures sums { (ds : List ℤ) (i : ℕ) (d : ℤ) → i < length ds → slice_index_or (running_sums ds) i d ≡ int_sum (take (suc i) ds) }
+    ensures begins { (ds : List ℤ) → running_sums_from (pos 0) ds ≡ running_sums ds }
+    ensures runs_on { (base d : ℤ) (ds : List ℤ) → running_sums_from base (d ∷ ds) ≡ (base +ℤ d) ∷ running_sums_from (base +ℤ d) ds }
 {}
 
 /// Where objects stand in order, the order changes nothing of what they are, and what follows is in order behind them.
@@ -86,7 +93,7 @@ pub fn one_run_of_tags()
 
 /// The objects of a block without a fault are those that are read in order.
 pub fn entities_of_a_block()
-    ensures { (before : List Entity) (raw : List ℕ) (b : PrimitiveBlock) → block raw ≡ Ok b → block_fault before raw ≡ None → raw_entities raw ≡ (in_order before (block_objects b)).items }
+    ensures { (before : List Entity) (raw : List ℕ) (b : PrimitiveBlock) → block raw ≡ Ok b → block_fault before raw ≡ None → entities_in raw ≡ (in_order before (block_objects b)).items }
 {}
 
 /// In the whole input, and in a block behind objects that rise, kinds do not go back, and the ids of each kind rise.

@@ -1,8 +1,15 @@
-//! What an input spells: messages, blobs, blocks and objects, and the first fault.
+//! What an input spells: messages, blobs, blocks and entities, and the first fault.
 //!
 //! The definitions stand in `specs/`, in this order: `Reading`, `Wire`, `Tables`, `Frames`, `Blocks`, `Entities`, `Objects`, `Order`, `Input`.
+//! They speak of the `limits`, of the `numbers` of fields, of their `rules` and `tables`, and of the `faults` for which an input is refused, as the code
+//! of the readers does.
 //! `rows` has them on small inputs, and `laws` what follows from them.
 #![tactic(auto)]
 
+pub mod faults;
 pub mod laws;
+pub mod limits;
+pub mod numbers;
 pub mod rows;
+pub mod rules;
+pub mod tables;

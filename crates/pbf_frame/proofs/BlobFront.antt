@@ -9,18 +9,21 @@ use Rattle.mf_base.specs.Steps.{◌>>=◌, require, told_as}
 use Rattle.mf_base.proofs.StepLaws.{bind_ok, ok_is, require_ok, told_ok, ok_or_ok}
 use Rattle.mf_base.proofs.BigBytes.{big_bytes-big_number}
 use Rattle.mf_edge.specs.Device.{HasNone}
-use Rattle.osm_model.specs.Tables.{message, blob_header, once_of, number_of}
-use Rattle.osm_model.specs.Frames.{Content, header, primitive, unread, type_of, FrameFault, too_long, truncated, header_length, header_wire, no_type, no_size, blob_size, header_limit, blob_limit, offset_limit, IsBlobHeader, HoldsContent, SpellsFrame, whole_part, raw_bytes, content_in, frame_front}
+use Rattle.osm_model.specs.declared.faults.FrameFault.{FrameFault}
+use Rattle.osm_model.specs.declared.faults.FrameFault.TheVariants.{BlobSize, HeaderLength, HeaderWire, NoKind, NoSize, TooLong, Truncated}
+use Rattle.osm_model.specs.declared.limits.TheConstants.{BLOB_LIMIT, HEADER_LIMIT, OFFSET_LIMIT}
+use Rattle.osm_model.specs.declared.tables.TheConstants.{BLOB_HEADER}
+use Rattle.osm_model.specs.Tables.{message, once_of, number_of}
+use Rattle.osm_model.specs.Frames.{Content, header, primitive, unread, type_of, IsBlobHeader, HoldsContent, SpellsFrame, whole_part, raw_bytes, content_in, frame_front}
 use Rattle.osm_model.proofs.TableMessageLaws.{message_found}
 use Rattle.osm_model.proofs.FrameLaws.{part-ok, raw_found}
-use Rattle.pbf_frame.specs.declared.frame_fault.FrameFault as shown
 use Rattle.pbf_frame.specs.declared.frame.BlobKind.{BlobKind}
 use Rattle.pbf_frame.specs.declared.frame.BlobKind.TheVariants.{Header, Primitive}
 use Rattle.pbf_frame.specs.declared.frame.Frame.{Frame}
 use Rattle.pbf_frame.specs.declared.blob_read.Step.{Step}
 use Rattle.pbf_frame.specs.declared.blob_read.Step.TheVariants.{End, Passed, Kept}
 use Rattle.pbf_frame.specs.declared.blob_head.BlobHead.{BlobHead}
-use Rattle.pbf_frame.specs.BlobSteps.{fault_shown, head_of, IsKind}
+use Rattle.pbf_frame.specs.BlobSteps.{head_of, IsKind}
 use Rattle.pbf_frame.specs.FrameReading.{BeginsNoBlob, content_shown}
 use Rattle.pbf_frame.specs.BlobReading.{HasLength, HasHead, HeadFails, BlobFails, HoldsBlob, SpellsStep}
 
@@ -57,17 +60,17 @@ behind_head bytes n told = do
   Ok (content, 4 + n + told.1)
 
 head-then : (head : List ℕ) (bytes : List ℕ) (n : ℕ)
-    → (head_of head >>= behind_head bytes n) ≡ (told_as header_wire (message blob_header head) >>= λ parts. ok_or (once_of 1 parts) no_type >>= λ kind. ok_or (number_of 3 parts) no_size >>= λ size. require (nat_le size blob_limit) blob_size >>= λ _. behind_head bytes n (kind, size))
+    → (head_of head >>= behind_head bytes n) ≡ (told_as HeaderWire (message BLOB_HEADER head) >>= λ parts. ok_or (once_of 1 parts) NoKind >>= λ kind. ok_or (number_of 3 parts) NoSize >>= λ size. require (nat_le size BLOB_LIMIT) BlobSize >>= λ _. behind_head bytes n (kind, size))
 unfolding head_of
-head-then head bytes n = steps4 (told_as header_wire (message blob_header head)) (λ parts. ok_or (once_of 1 parts) no_type) (λ parts. ok_or (number_of 3 parts) no_size) (λ size. require (nat_le size blob_limit) blob_size) (behind_head bytes n)
+head-then head bytes n = steps4 (told_as HeaderWire (message BLOB_HEADER head)) (λ parts. ok_or (once_of 1 parts) NoKind) (λ parts. ok_or (number_of 3 parts) NoSize) (λ size. require (nat_le size BLOB_LIMIT) BlobSize) (behind_head bytes n)
 
-part-cut : (p : List ℕ) (n : ℕ) → length p < n → whole_part n p ≡ Err (truncated (length p))
+part-cut : (p : List ℕ) (n : ℕ) → length p < n → whole_part n p ≡ Err (Truncated (length p))
 part-cut p n short = rw (lt-leb n (length p) short) refl
 
 front-length : (at n : ℕ) (four more : List ℕ) → HasLength at n four → frame_front at (four ++ more) ≡ (whole_part n more >>= λ head. head_of head >>= behind_head (four ++ more) n)
 unfolding frame_front
 front-length at n four more h =
-    rw (lt-ltb at offset_limit h.near) (rw (part-ok four more 4 h.count) (rw h.number (rw (le-leb n header_limit h.few) (rw (drop_at four more 4 h.count)
+    rw (lt-ltb at OFFSET_LIMIT h.near) (rw (part-ok four more 4 h.count) (rw h.number (rw (le-leb n HEADER_LIMIT h.few) (rw (drop_at four more 4 h.count)
     (bind-same (whole_part n more) _ _ (λ head. sym (head-then head (four ++ more) n)))))))
 
 front-head : (at : ℕ) (four head more : List ℕ) → HasLength at (length head) four → frame_front at (four ++ (head ++ more)) ≡ (head_of head >>= behind_head (four ++ (head ++ more)) (length head))
@@ -89,19 +92,19 @@ front-body at four head more kind size h read =
 none_of_some : (x : ℕ) (xs : List ℕ) → 0 < length xs → xs ≢ []
 none_of_some x xs some e = omega (arith, ap length e)
 
-pub begins-too_long : (at first : ℕ) (left : Option (List ℕ)) → offset_limit ≤ at → BeginsNoBlob at too_long left (first ∷ [])
+pub begins-too_long : (at first : ℕ) (left : Option (List ℕ)) → OFFSET_LIMIT ≤ at → BeginsNoBlob at TooLong left (first ∷ [])
 unfolding frame_front
-begins-too_long at first left far = (none_of_some 0 (first ∷ []) (omega arith), inl (λ more. rw (le-ltb at offset_limit far) refl))
+begins-too_long at first left far = (none_of_some 0 (first ∷ []) (omega arith), inl (λ more. rw (le-ltb at OFFSET_LIMIT far) refl))
 
-pub begins-length_cut : (at first : ℕ) (rest : List ℕ) (left : Option (List ℕ)) → at < offset_limit → length rest < 3 → HasNone left → BeginsNoBlob at (truncated (1 + length rest)) left (first ∷ rest)
+pub begins-length_cut : (at first : ℕ) (rest : List ℕ) (left : Option (List ℕ)) → at < OFFSET_LIMIT → length rest < 3 → HasNone left → BeginsNoBlob at (Truncated (1 + length rest)) left (first ∷ rest)
 unfolding frame_front
 begins-length_cut at first rest left near short end =
-    (none_of_some 0 (first ∷ rest) (omega arith), inr (rw (lt-ltb at offset_limit near) (rw (part-cut (first ∷ rest) 4 (omega (arith, short))) (ap (λ n. Err (truncated n)) (omega arith))), end))
+    (none_of_some 0 (first ∷ rest) (omega arith), inr (rw (lt-ltb at OFFSET_LIMIT near) (rw (part-cut (first ∷ rest) 4 (omega (arith, short))) (ap (λ n. Err (Truncated n)) (omega arith))), end))
 
-pub begins-header_length : (at : ℕ) (four : List ℕ) (left : Option (List ℕ)) → at < offset_limit → length four ≡ 4 → header_limit < big_number 4 four → BeginsNoBlob at header_length left four
+pub begins-header_length : (at : ℕ) (four : List ℕ) (left : Option (List ℕ)) → at < OFFSET_LIMIT → length four ≡ 4 → HEADER_LIMIT < big_number 4 four → BeginsNoBlob at HeaderLength left four
 unfolding frame_front
 begins-header_length at four left near count many =
-    (none_of_some 0 four (omega (arith, count)), inl (λ more. rw (lt-ltb at offset_limit near) (rw (part-ok four more 4 count) (rw (lt-leb (big_number 4 four) header_limit many) refl))))
+    (none_of_some 0 four (omega (arith, count)), inl (λ more. rw (lt-ltb at OFFSET_LIMIT near) (rw (part-ok four more 4 count) (rw (lt-leb (big_number 4 four) HEADER_LIMIT many) refl))))
 
 -- ---- a length and a BlobHeader
 
@@ -121,10 +124,10 @@ headed at n head x y h (count, kind, named, read) = record { four = x; bytes = y
 some_first : (at n : ℕ) (x y : List ℕ) → HasLength at n x → x ++ y ≢ []
 some_first at n x y h = none_of_some 0 (x ++ y) (omega (arith, h.count, length-append x y))
 
-pub head-fails : (at n : ℕ) (left : Option (List ℕ)) (f : shown.FrameFault) (x y : List ℕ) → HasLength at n x → HeadFails n left f y → BeginsNoBlob at (fault_shown f) left (x ++ y)
+pub head-fails : (at n : ℕ) (left : Option (List ℕ)) (f : FrameFault) (x y : List ℕ) → HasLength at n x → HeadFails n left f y → BeginsNoBlob at f left (x ++ y)
 head-fails at n left f x y h (inl (fault, short, end)) =
-    let front : frame_front at (x ++ y) ≡ Err (truncated (0 + length y)) = front-length at n x y h ∙ ap (λ r. r >>= λ b. head_of b >>= behind_head (x ++ y) n) (part-cut y n short) ∙ ap (λ k. Err (truncated k)) (omega arith) in
-    subst (λ g. BeginsNoBlob at (fault_shown g) left (x ++ y)) (sym fault) (some_first at n x y h, inr (front, end))
+    let front : frame_front at (x ++ y) ≡ Err (Truncated (0 + length y)) = front-length at n x y h ∙ ap (λ r. r >>= λ b. head_of b >>= behind_head (x ++ y) n) (part-cut y n short) ∙ ap (λ k. Err (Truncated k)) (omega arith) in
+    subst (λ g. BeginsNoBlob at g left (x ++ y)) (sym fault) (some_first at n x y h, inr (front, end))
 head-fails at n left f x y h (inr (count, e)) =
     let told = subst (λ k. HasLength at k x) (sym count) h in
     (some_first at n x y h, inl (λ more. ap (frame_front at) (append_assoc x y more) ∙ front-head at x y more told ∙ ap (λ r. r >>= behind_head (x ++ (y ++ more)) (length y)) e))
@@ -142,14 +145,14 @@ three_parts x four bytes y whole = ap (λ b. b ++ y) whole ∙ append_assoc four
 some_blob : (at : ℕ) (head : BlobHead) (x y : List ℕ) → IsHeaded at head x → x ++ y ≢ []
 some_blob at head x y h = none_of_some 0 (x ++ y) (omega (arith, h.told.count, ap length h.whole, length-append h.four h.bytes, length-append x y))
 
-pub blob-fails : (at : ℕ) (head : BlobHead) (left : Option (List ℕ)) (f : shown.FrameFault) (x y : List ℕ) → IsHeaded at head x → BlobFails head left f y → BeginsNoBlob at (fault_shown f) left (x ++ y)
+pub blob-fails : (at : ℕ) (head : BlobHead) (left : Option (List ℕ)) (f : FrameFault) (x y : List ℕ) → IsHeaded at head x → BlobFails head left f y → BeginsNoBlob at f left (x ++ y)
 blob-fails at head left f x y h (inl (fault, short, end)) =
-    let front : frame_front at (x ++ y) ≡ Err (truncated (0 + length y)) =
+    let front : frame_front at (x ++ y) ≡ Err (Truncated (0 + length y)) =
     ap (frame_front at) (three_parts x h.four h.bytes y h.whole) ∙ front-body at h.four h.bytes y h.kind head.size h.told h.read
-    ∙ ap (λ r. r >>= λ body. content_in h.kind body >>= λ content. Ok (content, 4 + length h.bytes + head.size)) (part-cut y head.size short) ∙ ap (λ k. Err (truncated k)) (omega arith) in
-    subst (λ g. BeginsNoBlob at (fault_shown g) left (x ++ y)) (sym fault) (some_blob at head x y h, inr (front, end))
+    ∙ ap (λ r. r >>= λ body. content_in h.kind body >>= λ content. Ok (content, 4 + length h.bytes + head.size)) (part-cut y head.size short) ∙ ap (λ k. Err (Truncated k)) (omega arith) in
+    subst (λ g. BeginsNoBlob at g left (x ++ y)) (sym fault) (some_blob at head x y h, inr (front, end))
 blob-fails at head left f x y h (inr (count, some, e)) =
-    let failed = content-fails head.kind h.kind y (fault_shown f) some h.named e in (
+    let failed = content-fails head.kind h.kind y f some h.named e in (
       some_blob at head x y h,
       inl (λ more.
           ap (frame_front at) (append_assoc x y more ∙ three_parts x h.four h.bytes (y ++ more) h.whole) ∙ front-body at h.four h.bytes (y ++ more) h.kind head.size h.told h.read
@@ -162,7 +165,7 @@ unfolding big_endian
 four_is at n four h =
     sym (take_all 4 four (omega (arith, h.count))) ∙ sym (big_bytes-big_number 4 four h.small (omega (arith, h.count))) ∙ ap (big_bytes 4) h.number
 
-header_found : (bytes kind : List ℕ) (size : ℕ) → head_of bytes ≡ Ok (kind, size) → (size ≤ blob_limit) × IsBlobHeader kind size bytes
+header_found : (bytes kind : List ℕ) (size : ℕ) → head_of bytes ≡ Ok (kind, size) → (size ≤ BLOB_LIMIT) × IsBlobHeader kind size bytes
 unfolding head_of
 header_found bytes kind size e =
     let (parts, read, r1) = bind_ok _ _ _ e in
@@ -170,11 +173,11 @@ header_found bytes kind size e =
     let (m, told, r3) = bind_ok _ _ _ r2 in
     let (u, few, last) = bind_ok _ _ _ r3 in
     let pair = ok_is _ _ last in
-    let is = message_found blob_header bytes parts (told_ok header_wire (message blob_header bytes) parts read) in
+    let is = message_found BLOB_HEADER bytes parts (told_ok HeaderWire (message BLOB_HEADER bytes) parts read) in
     let same : k ≡ kind = ap (λ p. p.0) pair in
     let size_is : m ≡ size = ap (λ p. p.1) pair in (
-      subst (λ n. n ≤ blob_limit) size_is (leb-true _ _ (require_ok _ _ u few)),
-      record { parts = parts; spelled = is.0; fits = is.1; named = ok_or_ok _ no_type k named ∙ ap Some same; sized = ok_or_ok _ no_size m told ∙ ap Some size_is },
+      subst (λ n. n ≤ BLOB_LIMIT) size_is (leb-true _ _ (require_ok _ _ u few)),
+      record { fields = parts; spelled = is.0; fits = is.1; named = ok_or_ok _ NoKind k named ∙ ap Some same; sized = ok_or_ok _ NoSize m told ∙ ap Some size_is },
     )
 
 spells : (at : ℕ) (head : BlobHead) (x y : List ℕ) (content : Content) → (h : IsHeaded at head x) → length y ≡ head.size → type_of content ≡ h.kind → HoldsContent content y → SpellsFrame content (x ++ y)
@@ -185,7 +188,7 @@ spells at head x y content h count type holds =
       body = y;
       whole = ap (λ b. b ++ y) (h.whole ∙ ap (λ b. b ++ h.bytes) (four_is at (length h.bytes) h.four h.told));
       head_size = h.told.few;
-      body_size = subst (λ n. n ≤ blob_limit) (sym count) found.0;
+      body_size = subst (λ n. n ≤ BLOB_LIMIT) (sym count) found.0;
       head_holds = subst (λ n. IsBlobHeader (type_of content) n h.bytes) (sym count) (subst (λ k. IsBlobHeader k head.size h.bytes) (sym type) found.1);
       body_holds = holds;
     }

@@ -3,7 +3,8 @@ use Rattle.std.proofs.Common.{◌≡◌, ◌∙◌, ℕ, ◌+◌, ◌-◌, ◌�
 use Rattle.std.specs.Prelude.{slice_range, slice_get}
 use Rattle.std.proofs.lemmas.List.{take_at, drop_at, take-append-drop}
 use Rattle.osm_model.specs.Reading.{Reading}
-use Rattle.osm_model.specs.Wire.{Field, WireFault, len, SpellsValue, field_front, fields}
+use Rattle.osm_model.specs.declared.faults.WireFault.{WireFault}
+use Rattle.osm_model.specs.Wire.{Field, len, SpellsValue, field_front, fields}
 use Rattle.osm_model.specs.Tables.{bytes_of, once_of}
 use Rattle.osm_model.proofs.FieldLaws.{field_found}
 use Rattle.osm_model.proofs.MessageLaws.{fields-more}

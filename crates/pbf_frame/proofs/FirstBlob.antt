@@ -2,25 +2,26 @@
 use Rattle.std.proofs.Common.{ℕ, ◌<◌, ◌≤◌, ◌^◌, List, [], ◌∷◌, ◌++◌, length, refl, arith}
 use Rattle.std.specs.Prelude.{codes}
 use Rattle.mf_base.specs.Spelling.{big_endian}
-use Rattle.osm_model.specs.Tables.{FitsTable, fields_fault, blob_header as header_table, blob as blob_table}
+use Rattle.osm_model.specs.declared.tables.TheConstants.{BLOB_HEADER, BLOB}
+use Rattle.osm_model.specs.Tables.{FitsTable, fields_fault}
 use Rattle.osm_model.specs.Frames.{Content, header, primitive, type_of, IsBlobHeader, IsBlob, HoldsContent, SpellsFrame}
 use Rattle.osm_model.proofs.TableLaws.{none_fits}
 use Rattle.pbf_frame.specs.FirstForm.{first_limit, number_field, bytes_field, blob_header, blob}
 use Rattle.pbf_frame.proofs.Found.{length-header}
 use Rattle.pbf_frame.proofs.FirstFields.{number_at, bytes_at, spells-number, spells-bytes, one-field, message-with, field-longer, end-shorter}
 
-header-fits : (kind : List ℕ) (size : ℕ) → FitsTable header_table (bytes_at 1 kind ∷ number_at 3 size ∷ [])
+header-fits : (kind : List ℕ) (size : ℕ) → FitsTable BLOB_HEADER (bytes_at 1 kind ∷ number_at 3 size ∷ [])
 unfolding fields_fault
-header-fits kind size = none_fits header_table (bytes_at 1 kind ∷ number_at 3 size ∷ []) refl
+header-fits kind size = none_fits BLOB_HEADER (bytes_at 1 kind ∷ number_at 3 size ∷ []) refl
 
-blob-fits : (raw : List ℕ) → FitsTable blob_table (bytes_at 1 raw ∷ [])
+blob-fits : (raw : List ℕ) → FitsTable BLOB (bytes_at 1 raw ∷ [])
 unfolding fields_fault
-blob-fits raw = none_fits blob_table (bytes_at 1 raw ∷ []) refl
+blob-fits raw = none_fits BLOB (bytes_at 1 raw ∷ []) refl
 
 pub header-is : (kind : List ℕ) (size : ℕ) → length kind < 2 ^ 64 → size < 2 ^ 64 → IsBlobHeader kind size (blob_header kind size)
 unfolding blob_header
 header-is kind size few small = record {
-  parts = bytes_at 1 kind ∷ number_at 3 size ∷ [];
+  fields = bytes_at 1 kind ∷ number_at 3 size ∷ [];
   spelled = message-with (bytes_field 1 kind) (number_field 3 size) (bytes_at 1 kind ∷ []) (number_at 3 size) (one-field (bytes_at 1 kind) (bytes_field 1 kind) (spells-bytes 1 kind (omega arith) (omega arith) few)) (spells-number 3 size (omega arith) (omega arith) small);
   fits = header-fits kind size;
   named = refl;
@@ -29,7 +30,7 @@ header-is kind size few small = record {
 
 pub body-is : (raw : List ℕ) → length raw < 2 ^ 64 → IsBlob raw (bytes_field 1 raw)
 body-is raw small = record {
-  parts = bytes_at 1 raw ∷ [];
+  fields = bytes_at 1 raw ∷ [];
   spelled = one-field (bytes_at 1 raw) (bytes_field 1 raw) (spells-bytes 1 raw (omega arith) (omega arith) small);
   fits = blob-fits raw;
   plain = refl;

@@ -4,7 +4,8 @@ use Rattle.std.specs.Str.{is_utf8}
 use Rattle.std.proofs.lemmas.Str.{is_utf8-from_IsUtf8, IsUtf8-nil}
 use Rattle.mf_base.specs.Texts.{Text}
 use Rattle.osm_model.specs.Wire.{Field}
-use Rattle.osm_model.specs.Tables.{FitsTable, fields_fault, message, string_table as string_message, primitive_block as block_table}
+use Rattle.osm_model.specs.declared.tables.TheConstants.{STRING_TABLE, PRIMITIVE_BLOCK}
+use Rattle.osm_model.specs.Tables.{FitsTable, fields_fault, message}
 use Rattle.osm_model.specs.Blocks.{PrimitiveBlock, strings_in, block}
 use Rattle.osm_model.proofs.TableLaws.{none_fits}
 use Rattle.osm_model.proofs.TableMessageLaws.{message_is}
@@ -22,9 +23,9 @@ strings_for d = [] ∷ d.key ∷ d.value ∷ []
 abbrev strings_at : Text → Text → List Field
 strings_at key value = bytes_at 1 [] ∷ bytes_at 1 key ∷ bytes_at 1 value ∷ []
 
-strings-fit : (key value : Text) → FitsTable string_message (strings_at key value)
+strings-fit : (key value : Text) → FitsTable STRING_TABLE (strings_at key value)
 unfolding fields_fault
-strings-fit key value = none_fits string_message (strings_at key value) refl
+strings-fit key value = none_fits STRING_TABLE (strings_at key value) refl
 
 -- the texts are shorter than the StringTable
 key-shorter : (key value : Text) → length key < length (string_table key value)
@@ -35,13 +36,13 @@ value-shorter : (key value : Text) → length value < length (string_table key v
 unfolding string_table
 value-shorter key value = omega (arith, field-longer 1 value, end-shorter (bytes_field 1 [] ++ bytes_field 1 key) (bytes_field 1 value))
 
-strings-message : (key value : Text) → length key < 2 ^ 64 → length value < 2 ^ 64 → message string_message (string_table key value) ≡ Ok (strings_at key value)
+strings-message : (key value : Text) → length key < 2 ^ 64 → length value < 2 ^ 64 → message STRING_TABLE (string_table key value) ≡ Ok (strings_at key value)
 unfolding string_table
 strings-message key value few short =
     let one = one-field (bytes_at 1 []) (bytes_field 1 []) (spells-bytes 1 [] (omega arith) (omega arith) (omega arith)) in
     let two = message-with (bytes_field 1 []) (bytes_field 1 key) (bytes_at 1 [] ∷ []) (bytes_at 1 key) one (spells-bytes 1 key (omega arith) (omega arith) few) in
     let three = message-with (bytes_field 1 [] ++ bytes_field 1 key) (bytes_field 1 value) (bytes_at 1 [] ∷ bytes_at 1 key ∷ []) (bytes_at 1 value) two (spells-bytes 1 value (omega arith) (omega arith) short) in
-    message_is string_message (bytes_field 1 [] ++ bytes_field 1 key ++ bytes_field 1 value) (strings_at key value) three (strings-fit key value)
+    message_is STRING_TABLE (bytes_field 1 [] ++ bytes_field 1 key ++ bytes_field 1 value) (strings_at key value) three (strings-fit key value)
 
 empty-text : is_utf8 [] ≡ true
 empty-text = is_utf8-from_IsUtf8 [] IsUtf8-nil
@@ -61,9 +62,9 @@ group_for nodes = bytes_field 2 (dense_nodes nodes)
 abbrev parts_at : FirstData → List Field
 parts_at d = bytes_at 1 (string_table d.key d.value) ∷ bytes_at 2 (group_for d.nodes) ∷ []
 
-parts-fit : (d : FirstData) → FitsTable block_table (parts_at d)
+parts-fit : (d : FirstData) → FitsTable PRIMITIVE_BLOCK (parts_at d)
 unfolding fields_fault
-parts-fit d = none_fits block_table (parts_at d) refl
+parts-fit d = none_fits PRIMITIVE_BLOCK (parts_at d) refl
 
 table-shorter : (d : FirstData) → length (string_table d.key d.value) < length (primitive_block d)
 unfolding primitive_block
@@ -73,14 +74,14 @@ pub group-shorter : (d : FirstData) → length (group_for d.nodes) < length (pri
 unfolding primitive_block
 group-shorter d = omega (arith, field-longer 2 (group_for d.nodes), end-shorter (bytes_field 1 (string_table d.key d.value)) (bytes_field 2 (group_for d.nodes)))
 
-parts-message : (d : FirstData) → length (string_table d.key d.value) < 2 ^ 64 → length (group_for d.nodes) < 2 ^ 64 → message block_table (primitive_block d) ≡ Ok (parts_at d)
+parts-message : (d : FirstData) → length (string_table d.key d.value) < 2 ^ 64 → length (group_for d.nodes) < 2 ^ 64 → message PRIMITIVE_BLOCK (primitive_block d) ≡ Ok (parts_at d)
 unfolding primitive_block
 parts-message d few short =
     let table = string_table d.key d.value in
     let group = group_for d.nodes in
     let one = one-field (bytes_at 1 table) (bytes_field 1 table) (spells-bytes 1 table (omega arith) (omega arith) few) in
     let two = message-with (bytes_field 1 table) (bytes_field 2 group) (bytes_at 1 table ∷ []) (bytes_at 2 group) one (spells-bytes 2 group (omega arith) (omega arith) short) in
-    message_is block_table (bytes_field 1 table ++ bytes_field 2 group) (parts_at d) two (parts-fit d)
+    message_is PRIMITIVE_BLOCK (bytes_field 1 table ++ bytes_field 2 group) (parts_at d) two (parts-fit d)
 
 -- what the PrimitiveBlock has
 abbrev pub block_for : FirstData → PrimitiveBlock

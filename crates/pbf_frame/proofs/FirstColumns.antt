@@ -9,7 +9,7 @@ use Rattle.mf_base.specs.Spelling.{vbe_unsigned, zigzag_of, unzigzag_of}
 use Rattle.mf_base.proofs.NumberLemmas.{zigzag-there}
 use Rattle.mf_base.proofs.SignLaws.{plus_difference}
 use Rattle.osm_model.specs.Wire.{IsPacked, are_varints, packed_numbers}
-use Rattle.osm_model.specs.Objects.{column, column_from}
+use Rattle.osm_model.specs.Objects.{running_sums, running_sums_from}
 use Rattle.osm_model.proofs.ColumnLaws.{length-column, column_from-zero, column_from-cons}
 use Rattle.osm_model.proofs.PackedLaws.{packed_is}
 use Rattle.pbf_frame.specs.FirstForm.{differences, packed}
@@ -57,13 +57,13 @@ packed-signed zs h = ap (map unzigzag_of) (packed_is (packed zs) (map zigzag_of 
 
 -- ---- sums of differences
 
-sums-from : (before : ℤ) (zs : List ℤ) → column_from before (differences before zs) ≡ zs
-sums-from before [] = ap (map (λ sum. before +ℤ sum)) (nil_from_length (column []) (length-column []))
+sums-from : (before : ℤ) (zs : List ℤ) → running_sums_from before (differences before zs) ≡ zs
+sums-from before [] = ap (map (λ sum. before +ℤ sum)) (nil_from_length (running_sums []) (length-column []))
 sums-from before (z ∷ zs) =
     column_from-cons before (z -ℤ before) (differences z zs)
-    ∙ ap (λ x. x ∷ column_from x (differences z zs)) (plus_difference before z) ∙ ap (λ xs. z ∷ xs) (sums-from z zs)
+    ∙ ap (λ x. x ∷ running_sums_from x (differences z zs)) (plus_difference before z) ∙ ap (λ xs. z ∷ xs) (sums-from z zs)
 
-pub sums-back : (zs : List ℤ) → column (differences (pos 0) zs) ≡ zs
+pub sums-back : (zs : List ℤ) → running_sums (differences (pos 0) zs) ≡ zs
 sums-back zs = sym (column_from-zero (differences (pos 0) zs)) ∙ sums-from (pos 0) zs
 
 pub length-differences : (before : ℤ) (zs : List ℤ) → length (differences before zs) ≡ length zs

@@ -6,11 +6,14 @@ use Rattle.std.proofs.lemmas.List.{append-nil, length-map}
 use Rattle.mf_base.specs.Ranges.{is_signed_64}
 use Rattle.mf_base.specs.Spelling.{zigzag_of}
 use Rattle.mf_base.specs.declared.kind.EntityKind.TheVariants as kinds
+use Rattle.osm_model.specs.declared.tables.TheConstants.{PRIMITIVE_GROUP}
 use Rattle.osm_model.specs.Wire.{Field, are_varints}
-use Rattle.osm_model.specs.Tables.{FitsTable, fields_fault, message, dense_nodes as dense_table, primitive_group, signed_of, packed_of}
+use Rattle.osm_model.specs.declared.tables.TheConstants.{DENSE_NODES}
+use Rattle.osm_model.specs.Tables.{FitsTable, fields_fault, message, packed_sint64_of, packed_of}
 use Rattle.osm_model.specs.Blocks.{PrimitiveBlock, is_coordinate}
 use Rattle.osm_model.specs.Entities.{Entity}
-use Rattle.osm_model.specs.Objects.{EntityFault, Object, TagRun, column, node_of, run_tags, runs_of, dense_node, with_runs, zip_three, dense_columns, dense_objects, group_objects, block_objects}
+use Rattle.osm_model.specs.declared.faults.EntityFault.{EntityFault}
+use Rattle.osm_model.specs.Objects.{Object, TagRun, running_sums, node_of, run_tags, runs_of, dense_node, with_runs, zip_three, dense_columns, dense_objects, group_objects, block_objects}
 use Rattle.osm_model.proofs.TableLaws.{none_fits}
 use Rattle.osm_model.proofs.TableMessageLaws.{message_is}
 use Rattle.pbf_frame.specs.declared.stored.StoredNode.{StoredNode}
@@ -59,9 +62,9 @@ lons-told nodes h = near-told 1800000000 (pos 0) (lons_of nodes) (omega arith) (
 abbrev columns_at : (ids lats lons tags : List ℕ) → List Field
 columns_at ids lats lons tags = bytes_at 1 ids ∷ bytes_at 8 lats ∷ bytes_at 9 lons ∷ bytes_at 10 tags ∷ []
 
-columns-fit : (ids lats lons tags : List ℕ) → are_varints ids ≡ true → are_varints lats ≡ true → are_varints lons ≡ true → are_varints tags ≡ true → FitsTable dense_table (columns_at ids lats lons tags)
+columns-fit : (ids lats lons tags : List ℕ) → are_varints ids ≡ true → are_varints lats ≡ true → are_varints lons ≡ true → are_varints tags ≡ true → FitsTable DENSE_NODES (columns_at ids lats lons tags)
 unfolding fields_fault
-columns-fit ids lats lons tags a b c d = none_fits dense_table (columns_at ids lats lons tags) (rw (a, b, c, d) refl)
+columns-fit ids lats lons tags a b c d = none_fits DENSE_NODES (columns_at ids lats lons tags) (rw (a, b, c, d) refl)
 
 -- four fields, one after another
 abbrev four_fields : (ids lats lons tags : List ℕ) → List ℕ
@@ -89,7 +92,7 @@ columns-short ids lats lons tags short =
       fourth = omega (arith, short, end-shorter (a ++ b ++ c) d, field-longer 10 tags);
     }
 
-columns-message : (ids lats lons tags : List ℕ) → ColumnsFit ids lats lons tags → FitsTable dense_table (columns_at ids lats lons tags) → message dense_table (four_fields ids lats lons tags) ≡ Ok (columns_at ids lats lons tags)
+columns-message : (ids lats lons tags : List ℕ) → ColumnsFit ids lats lons tags → FitsTable DENSE_NODES (columns_at ids lats lons tags) → message DENSE_NODES (four_fields ids lats lons tags) ≡ Ok (columns_at ids lats lons tags)
 columns-message ids lats lons tags short fits =
     let a = bytes_field 1 ids in
     let b = bytes_field 8 lats in
@@ -99,13 +102,13 @@ columns-message ids lats lons tags short fits =
     let two = message-with a b (bytes_at 1 ids ∷ []) (bytes_at 8 lats) one (spells-bytes 8 lats (omega arith) (omega arith) short.second) in
     let three = message-with (a ++ b) c (bytes_at 1 ids ∷ bytes_at 8 lats ∷ []) (bytes_at 9 lons) two (spells-bytes 9 lons (omega arith) (omega arith) short.third) in
     let four = message-with (a ++ b ++ c) d (bytes_at 1 ids ∷ bytes_at 8 lats ∷ bytes_at 9 lons ∷ []) (bytes_at 10 tags) three (spells-bytes 10 tags (omega arith) (omega arith) short.fourth) in
-    message_is dense_table (four_fields ids lats lons tags) (columns_at ids lats lons tags) four fits
+    message_is DENSE_NODES (four_fields ids lats lons tags) (columns_at ids lats lons tags) four fits
 
 -- the fields of the nodes
 abbrev nodes_at : List StoredNode → List Field
 nodes_at nodes = columns_at (delta_column (ids_of nodes)) (delta_column (lats_of nodes)) (delta_column (lons_of nodes)) (keys_vals nodes)
 
-nodes-message : (nodes : List StoredNode) → AreFirstNodes 0 nodes → length (dense_nodes nodes) ≤ first_limit → message dense_table (dense_nodes nodes) ≡ Ok (nodes_at nodes)
+nodes-message : (nodes : List StoredNode) → AreFirstNodes 0 nodes → length (dense_nodes nodes) ≤ first_limit → message DENSE_NODES (dense_nodes nodes) ≡ Ok (nodes_at nodes)
 unfolding dense_nodes
 nodes-message nodes h short =
     let ids = delta_column (ids_of nodes) in
@@ -156,7 +159,7 @@ nodes-are d before (n ∷ nodes) h =
     ∙ ap (λ x. x ∷ with_runs (block_for d) (zip_three (ids_of nodes) (lats_of nodes) (lons_of nodes)) (runs_for nodes)) (dense-node d n h.1 h.2)
     ∙ ap (λ xs. Ok (object_for d n) ∷ xs) (nodes-are d n.id nodes h.3)
 
-columns-ok : (b : PrimitiveBlock) (ids lats lons : List ℤ) (tags : List ℕ) → length ids ≡ length lats → length ids ≡ length lons → dense_columns b ids lats lons tags ≡ with_runs b (zip_three (column ids) (column lats) (column lons)) (runs_of (length ids) tags)
+columns-ok : (b : PrimitiveBlock) (ids lats lons : List ℤ) (tags : List ℕ) → length ids ≡ length lats → length ids ≡ length lons → dense_columns b ids lats lons tags ≡ with_runs b (zip_three (running_sums ids) (running_sums lats) (running_sums lons)) (runs_of (length ids) tags)
 unfolding dense_columns
 columns-ok b ids lats lons tags e f = rw (eq-eqb (length ids) (length lats) e, eq-eqb (length ids) (length lons) f) refl
 
@@ -170,14 +173,14 @@ columns-are d nodes h =
     let many_lons = count ∙ sym (length-steps (λ n. n.lon) nodes) in
     let b = block_for d in
     columns-ok b (steps (ids_of nodes)) (steps (lats_of nodes)) (steps (lons_of nodes)) (keys_vals nodes) many_lats many_lons
-    ∙ ap (λ xs. with_runs b (zip_three xs (column (steps (lats_of nodes))) (column (steps (lons_of nodes)))) (runs_of (length (steps (ids_of nodes))) (keys_vals nodes))) (sums-back (ids_of nodes))
-    ∙ ap (λ xs. with_runs b (zip_three (ids_of nodes) xs (column (steps (lons_of nodes)))) (runs_of (length (steps (ids_of nodes))) (keys_vals nodes))) (sums-back (lats_of nodes))
+    ∙ ap (λ xs. with_runs b (zip_three xs (running_sums (steps (lats_of nodes))) (running_sums (steps (lons_of nodes)))) (runs_of (length (steps (ids_of nodes))) (keys_vals nodes))) (sums-back (ids_of nodes))
+    ∙ ap (λ xs. with_runs b (zip_three (ids_of nodes) xs (running_sums (steps (lons_of nodes)))) (runs_of (length (steps (ids_of nodes))) (keys_vals nodes))) (sums-back (lats_of nodes))
     ∙ ap (λ xs. with_runs b (zip_three (ids_of nodes) (lats_of nodes) xs) (runs_of (length (steps (ids_of nodes))) (keys_vals nodes))) (sums-back (lons_of nodes))
     ∙ ap (λ k. with_runs b (zip_three (ids_of nodes) (lats_of nodes) (lons_of nodes)) (runs_of k (keys_vals nodes))) count
     ∙ ap (with_runs b (zip_three (ids_of nodes) (lats_of nodes) (lons_of nodes))) (runs-are nodes)
     ∙ nodes-are d 0 nodes h
 
-objects-ok : (b : PrimitiveBlock) (bytes : List ℕ) (parts : List Field) → message dense_table bytes ≡ Ok parts → dense_objects b bytes ≡ dense_columns b (signed_of 1 parts) (signed_of 8 parts) (signed_of 9 parts) (packed_of 10 parts)
+objects-ok : (b : PrimitiveBlock) (bytes : List ℕ) (parts : List Field) → message DENSE_NODES bytes ≡ Ok parts → dense_objects b bytes ≡ dense_columns b (packed_sint64_of 1 parts) (packed_sint64_of 8 parts) (packed_sint64_of 9 parts) (packed_of 10 parts)
 unfolding dense_objects
 objects-ok b bytes parts e = rw (e, dense_objects) refl
 
@@ -185,20 +188,20 @@ dense-are : (d : FirstData) (nodes : List StoredNode) → AreFirstNodes 0 nodes 
 dense-are d nodes h short =
     let b = block_for d in
     objects-ok b (dense_nodes nodes) (nodes_at nodes) (nodes-message nodes h short)
-    ∙ ap (λ xs. dense_columns b xs (signed_of 8 (nodes_at nodes)) (signed_of 9 (nodes_at nodes)) (packed_of 10 (nodes_at nodes))) (packed-signed (steps (ids_of nodes)) (ids-told 0 nodes h))
-    ∙ ap (λ xs. dense_columns b (steps (ids_of nodes)) xs (signed_of 9 (nodes_at nodes)) (packed_of 10 (nodes_at nodes))) (packed-signed (steps (lats_of nodes)) (lats-told nodes h))
+    ∙ ap (λ xs. dense_columns b xs (packed_sint64_of 8 (nodes_at nodes)) (packed_sint64_of 9 (nodes_at nodes)) (packed_of 10 (nodes_at nodes))) (packed-signed (steps (ids_of nodes)) (ids-told 0 nodes h))
+    ∙ ap (λ xs. dense_columns b (steps (ids_of nodes)) xs (packed_sint64_of 9 (nodes_at nodes)) (packed_of 10 (nodes_at nodes))) (packed-signed (steps (lats_of nodes)) (lats-told nodes h))
     ∙ ap (λ xs. dense_columns b (steps (ids_of nodes)) (steps (lats_of nodes)) xs (packed_of 10 (nodes_at nodes))) (packed-signed (steps (lons_of nodes)) (lons-told nodes h))
     ∙ ap (dense_columns b (steps (ids_of nodes)) (steps (lats_of nodes)) (steps (lons_of nodes))) (tags-numbers nodes)
     ∙ columns-are d nodes h
 
 -- ---- the group
 
-group-fits : (bytes : List ℕ) → FitsTable primitive_group (bytes_at 2 bytes ∷ [])
+group-fits : (bytes : List ℕ) → FitsTable PRIMITIVE_GROUP (bytes_at 2 bytes ∷ [])
 unfolding fields_fault
-group-fits bytes = none_fits primitive_group (bytes_at 2 bytes ∷ []) refl
+group-fits bytes = none_fits PRIMITIVE_GROUP (bytes_at 2 bytes ∷ []) refl
 
-group-message : (bytes : List ℕ) → length bytes < 2 ^ 64 → message primitive_group (bytes_field 2 bytes) ≡ Ok (bytes_at 2 bytes ∷ [])
-group-message bytes short = message_is primitive_group (bytes_field 2 bytes) (bytes_at 2 bytes ∷ []) (one-field (bytes_at 2 bytes) (bytes_field 2 bytes) (spells-bytes 2 bytes (omega arith) (omega arith) short)) (group-fits bytes)
+group-message : (bytes : List ℕ) → length bytes < 2 ^ 64 → message PRIMITIVE_GROUP (bytes_field 2 bytes) ≡ Ok (bytes_at 2 bytes ∷ [])
+group-message bytes short = message_is PRIMITIVE_GROUP (bytes_field 2 bytes) (bytes_at 2 bytes ∷ []) (one-field (bytes_at 2 bytes) (bytes_field 2 bytes) (spells-bytes 2 bytes (omega arith) (omega arith) short)) (group-fits bytes)
 
 group-ok : (b : PrimitiveBlock) (bytes : List ℕ) → length bytes < 2 ^ 64 → group_objects b (bytes_field 2 bytes) ≡ dense_objects b bytes
 unfolding group_objects

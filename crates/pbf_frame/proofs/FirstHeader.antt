@@ -4,8 +4,10 @@ use Rattle.std.specs.Prelude.{codes, ℤ, pos, negsuc, nat_abs}
 use Rattle.mf_base.specs.declared.place.Rect.{Rect}
 use Rattle.mf_base.specs.Spelling.{zigzag_of}
 use Rattle.mf_base.proofs.NumberLemmas.{zigzag-there}
+use Rattle.osm_model.specs.declared.tables.TheConstants.{HEADER_BBOX}
 use Rattle.osm_model.specs.Wire.{Field}
-use Rattle.osm_model.specs.Tables.{FitsTable, fields_fault, message, header_bbox, header_block as header_table}
+use Rattle.osm_model.specs.declared.tables.TheConstants.{HEADER_BLOCK}
+use Rattle.osm_model.specs.Tables.{FitsTable, fields_fault, message}
 use Rattle.osm_model.specs.Blocks.{micro, box_in, header_box}
 use Rattle.osm_model.proofs.TableLaws.{none_fits}
 use Rattle.osm_model.proofs.TableMessageLaws.{message_is}
@@ -40,11 +42,11 @@ sides-told s are = let small = sides-small s are in record {
 abbrev sides_at : Sides → List Field
 sides_at s = number_at 1 (zigzag_of s.left) ∷ number_at 2 (zigzag_of s.right) ∷ number_at 3 (zigzag_of s.top) ∷ number_at 4 (zigzag_of s.bottom) ∷ []
 
-bbox-fits : (s : Sides) → FitsTable header_bbox (sides_at s)
+bbox-fits : (s : Sides) → FitsTable HEADER_BBOX (sides_at s)
 unfolding fields_fault
-bbox-fits s = none_fits header_bbox (sides_at s) refl
+bbox-fits s = none_fits HEADER_BBOX (sides_at s) refl
 
-bbox-message : (s : Sides) → SidesTold s → message header_bbox (bbox s) ≡ Ok (sides_at s)
+bbox-message : (s : Sides) → SidesTold s → message HEADER_BBOX (bbox s) ≡ Ok (sides_at s)
 unfolding bbox
 bbox-message s fit =
     let left = number_at 1 (zigzag_of s.left) in
@@ -55,7 +57,7 @@ bbox-message s fit =
     let two = message-with (signed_field 1 s.left) (signed_field 2 s.right) (left ∷ []) right one (spells-number 2 _ (omega arith) (omega arith) fit.right) in
     let three = message-with (signed_field 1 s.left ++ signed_field 2 s.right) (signed_field 3 s.top) (left ∷ right ∷ []) top two (spells-number 3 _ (omega arith) (omega arith) fit.top) in
     let four = message-with (signed_field 1 s.left ++ signed_field 2 s.right ++ signed_field 3 s.top) (signed_field 4 s.bottom) (left ∷ right ∷ top ∷ []) bottom three (spells-number 4 _ (omega arith) (omega arith) fit.bottom) in
-    message_is header_bbox (signed_field 1 s.left ++ signed_field 2 s.right ++ signed_field 3 s.top ++ signed_field 4 s.bottom) (sides_at s) four (bbox-fits s)
+    message_is HEADER_BBOX (signed_field 1 s.left ++ signed_field 2 s.right ++ signed_field 3 s.top ++ signed_field 4 s.bottom) (sides_at s) four (bbox-fits s)
 
 -- the box of sides, in microdegrees
 abbrev pub box_told : Sides → Rect
@@ -72,9 +74,9 @@ box-is s are =
 abbrev blocks_at : Sides → List Field
 blocks_at s = bytes_at 1 (bbox s) ∷ bytes_at 4 (codes "OsmSchema-V0.6") ∷ bytes_at 4 (codes "DenseNodes") ∷ []
 
-block-fits : (s : Sides) → FitsTable header_table (blocks_at s)
+block-fits : (s : Sides) → FitsTable HEADER_BLOCK (blocks_at s)
 unfolding fields_fault
-block-fits s = none_fits header_table (blocks_at s) refl
+block-fits s = none_fits HEADER_BLOCK (blocks_at s) refl
 
 -- the bbox is shorter than its HeaderBlock
 bbox-shorter : (s : Sides) → length (bbox s) < length (header_block s)
@@ -84,7 +86,7 @@ bbox-shorter s =
     let dense = bytes_field 4 (codes "DenseNodes") in
     omega (arith, field-longer 1 (bbox s), front-shorter (bytes_field 1 (bbox s)) schema, front-shorter (bytes_field 1 (bbox s) ++ schema) dense)
 
-block-message : (s : Sides) → length (bbox s) < 2 ^ 64 → message header_table (header_block s) ≡ Ok (blocks_at s)
+block-message : (s : Sides) → length (bbox s) < 2 ^ 64 → message HEADER_BLOCK (header_block s) ≡ Ok (blocks_at s)
 unfolding header_block
 block-message s short =
     let schema = codes "OsmSchema-V0.6" in
@@ -92,7 +94,7 @@ block-message s short =
     let one = one-field (bytes_at 1 (bbox s)) (bytes_field 1 (bbox s)) (spells-bytes 1 (bbox s) (omega arith) (omega arith) short) in
     let two = message-with (bytes_field 1 (bbox s)) (bytes_field 4 schema) (bytes_at 1 (bbox s) ∷ []) (bytes_at 4 schema) one (spells-bytes 4 schema (omega arith) (omega arith) (omega arith)) in
     let three = message-with (bytes_field 1 (bbox s) ++ bytes_field 4 schema) (bytes_field 4 dense) (bytes_at 1 (bbox s) ∷ bytes_at 4 schema ∷ []) (bytes_at 4 dense) two (spells-bytes 4 dense (omega arith) (omega arith) (omega arith)) in
-    message_is header_table (bytes_field 1 (bbox s) ++ bytes_field 4 schema ++ bytes_field 4 dense) (blocks_at s) three (block-fits s)
+    message_is HEADER_BLOCK (bytes_field 1 (bbox s) ++ bytes_field 4 schema ++ bytes_field 4 dense) (blocks_at s) three (block-fits s)
 
 pub header-box : (s : Sides) → AreSides s → length (header_block s) ≤ first_limit → header_box (header_block s) ≡ Ok (Some (box_told s))
 unfolding header_box

@@ -4,12 +4,16 @@ use Rattle.std.specs.Prelude.{codes, MatchOption, option_map, unwrap_or, filter_
 use Rattle.std.specs.List.{cons_option}
 use Rattle.std.specs.Option.{option_or}
 use Rattle.mf_base.specs.Steps.{fault_of, answer_of}
+use Rattle.osm_model.specs.declared.limits.TheConstants.{OFFSET_LIMIT}
+use Rattle.osm_model.specs.declared.faults.InputFault.{InputFault}
+use Rattle.osm_model.specs.declared.faults.InputCode.TheVariants as input_codes
 use Rattle.osm_model.specs.Reading.{Reading, then_reads}
-use Rattle.osm_model.specs.Frames.{header, primitive, Frame, FrameFaultAt, offset_limit, AreFrames, frames}
+use Rattle.osm_model.specs.Frames.{header, primitive, Frame, FrameFaultAt, AreFrames, frames}
 use Rattle.osm_model.specs.Entities.{Entity}
-use Rattle.osm_model.specs.Objects.{EntityFault, block_objects}
+use Rattle.osm_model.specs.declared.faults.EntityFault.{EntityFault}
+use Rattle.osm_model.specs.Objects.{block_objects}
 use Rattle.osm_model.specs.Order.{in_order}
-use Rattle.osm_model.specs.Input.{of_block, of_entity, block_fault, raw_entities, content_fault, content_entities, entities_of, content_box, sound_frames, good_frames, frame_fault, input_fault, input_entities, input_box, InputFault}
+use Rattle.osm_model.specs.Input.{block_fault, entities_in, content_fault, content_entities, entities_of, content_box, sound_frames, good_frames, as_input_fault, input_fault, input_entities, input_box}
 use Rattle.osm_model.proofs.FrameListLaws.{frames-only}
 use Rattle.osm_model.proofs.InputLaws.{sound-nil, sound-next, raw_entities-in_order}
 use Rattle.pbf_frame.specs.declared.stored.Sides.{Sides}
@@ -49,7 +53,7 @@ data-short : (sides : Sides) (held : Option FirstData) → length (first_bytes (
 unfolding first_bytes
 data-short sides held short = omega (arith, short, end-shorter (header_part sides) (data_blob held))
 
-data-framed : (at : ℕ) (held : Option FirstData) → at < offset_limit → length (data_blob held) ≤ first_limit → AreFrames at (data_blob held) (data_frames at held)
+data-framed : (at : ℕ) (held : Option FirstData) → at < OFFSET_LIMIT → length (data_blob held) ≤ first_limit → AreFrames at (data_blob held) (data_frames at held)
 data-framed at None near short = refl
 data-framed at (Some d) near short = (data_blob (Some d), [], refl, near, data-blob (primitive_block d) short, refl, sym (append-nil (data_blob (Some d))))
 
@@ -67,7 +71,7 @@ frames-are sides held short =
 -- ---- the blobs have no fault
 
 header-sound : (sides : Sides) → AreSides sides → length (header_part sides) ≤ first_limit → content_fault [] (header (header_block sides)) ≡ None
-header-sound sides are short = ap (λ r. option_map of_block (fault_of r)) (header-box sides are (omega (arith, short, raw-shorter (codes "OSMHeader") (header_block sides))))
+header-sound sides are short = ap (λ r. option_map input_codes.Block (fault_of r)) (header-box sides are (omega (arith, short, raw-shorter (codes "OSMHeader") (header_block sides))))
 
 -- the objects of the data block in order
 block-in-order : (d : FirstData) → IsFirstData d → length (primitive_block d) ≤ first_limit → in_order [] (block_objects (block_for d)) ≡ record { items = map (entity_for d) d.nodes; fault = None }
@@ -75,9 +79,9 @@ block-in-order d is short = ap (in_order []) (objects-are d is.sound (omega (ari
 
 block-sound : (d : FirstData) → IsFirstData d → length (primitive_block d) ≤ first_limit → block_fault [] (primitive_block d) ≡ None
 unfolding block_fault
-block-sound d is short = rw (block-is d is short, block_fault) (ap (λ (r : Reading Entity EntityFault). option_map of_entity r.fault) (block-in-order d is short))
+block-sound d is short = rw (block-is d is short, block_fault) (ap (λ (r : Reading Entity EntityFault). option_map input_codes.Entity r.fault) (block-in-order d is short))
 
-block-entities : (d : FirstData) → IsFirstData d → length (primitive_block d) ≤ first_limit → raw_entities (primitive_block d) ≡ map (entity_for d) d.nodes
+block-entities : (d : FirstData) → IsFirstData d → length (primitive_block d) ≤ first_limit → entities_in (primitive_block d) ≡ map (entity_for d) d.nodes
 block-entities d is short =
     raw_entities-in_order [] (primitive_block d) (block_for d) (block-is d is short) (block-sound d is short) ∙ ap (λ (r : Reading Entity EntityFault). r.items) (block-in-order d is short)
 
@@ -103,7 +107,7 @@ frames-sound sides held is =
 input-accepted : (sides : Sides) (held : Option FirstData) → IsFirstForm (value_of sides held) → input_fault (first_bytes (value_of sides held)) ≡ None
 unfolding input_fault
 input-accepted sides held is =
-    ap (λ (r : Reading Frame FrameFaultAt). option_or (sound_frames [] r.items).fault (option_map frame_fault r.fault)) (frames-are sides held is.short)
+    ap (λ (r : Reading Frame FrameFaultAt). option_or (sound_frames [] r.items).fault (option_map as_input_fault r.fault)) (frames-are sides held is.short)
     ∙ ap (λ (s : Reading Frame InputFault). option_or s.fault None) (frames-sound sides held is)
 
 frames-good : (sides : Sides) (held : Option FirstData) → IsFirstForm (value_of sides held) → good_frames (first_bytes (value_of sides held)) ≡ frames_for sides held
@@ -119,7 +123,7 @@ nodes-told d (n ∷ nodes) = ap (λ xs. entity_for d n ∷ xs) (nodes-told d nod
 data-entities : (sides : Sides) (at : ℕ) (held : Option FirstData) → MatchOption held ⊤ IsFirstData → length (data_blob held) ≤ first_limit → entities_of (data_frames at held) ≡ entities_told (value_of sides held)
 unfolding entities_told
 data-entities sides at None is short = refl
-data-entities sides at (Some d) is short = append-nil (raw_entities (primitive_block d)) ∙ block-entities d is (raw-short d short) ∙ nodes-told d d.nodes
+data-entities sides at (Some d) is short = append-nil (entities_in (primitive_block d)) ∙ block-entities d is (raw-short d short) ∙ nodes-told d d.nodes
 
 entities-are : (sides : Sides) (held : Option FirstData) → IsFirstForm (value_of sides held) → input_entities (first_bytes (value_of sides held)) ≡ entities_told (value_of sides held)
 unfolding input_entities

@@ -11,7 +11,8 @@ use Rattle.mf_base.specs.Spelling.{IsVarint, vbe_unsigned, zigzag_of, string, bi
 use Rattle.mf_base.proofs.OneSpelling.{vbe-small}
 use Rattle.mf_base.proofs.ByteLaws.{take-bytes}
 use Rattle.mf_base.proofs.SignLaws.{nat_abs-neg}
-use Rattle.osm_model.specs.Blocks.{is_coordinate, is_within, latitude_limit, longitude_limit, lat_nano, lon_nano, micro, place_of}
+use Rattle.osm_model.specs.declared.limits.TheConstants.{LATITUDE_LIMIT, LONGITUDE_LIMIT}
+use Rattle.osm_model.specs.Blocks.{is_coordinate, keeps_limit, lat_nano, lon_nano, micro, place_of}
 use Rattle.pbf_frame.specs.declared.first_node.FirstNode.{FirstNode}
 use Rattle.pbf_frame.specs.declared.stored.Sides.{Sides}
 use Rattle.pbf_frame.specs.declared.stored.StoredNode.{StoredNode}
@@ -149,14 +150,14 @@ micro-cast z le = rw (micro-code z le) (to_z-of_z w32 (int_div z (pos 1000)) (mi
 -- the places of a node in nanodegrees
 pub lat-near : (lat lon : ℤ) → is_coordinate plain_head lat lon ≡ true → nat_abs (pos 100 *ℤ lat) ≤ 180000000000
 lat-near lat lon h =
-    let parts = and_parts (is_within latitude_limit (lat_nano plain_head lat)) (is_within longitude_limit (lon_nano plain_head lon)) h in
-    let near = leb-true (nat_abs (pos 0 +ℤ pos 100 *ℤ lat)) latitude_limit parts.0 in
+    let parts = and_parts (keeps_limit LATITUDE_LIMIT (lat_nano plain_head lat)) (keeps_limit LONGITUDE_LIMIT (lon_nano plain_head lon)) h in
+    let near = leb-true (nat_abs (pos 0 +ℤ pos 100 *ℤ lat)) LATITUDE_LIMIT parts.0 in
     omega (arith, near, ap nat_abs (+ℤ_idl (pos 100 *ℤ lat)))
 
 pub lon-near : (lat lon : ℤ) → is_coordinate plain_head lat lon ≡ true → nat_abs (pos 100 *ℤ lon) ≤ 180000000000
 lon-near lat lon h =
-    let parts = and_parts (is_within latitude_limit (lat_nano plain_head lat)) (is_within longitude_limit (lon_nano plain_head lon)) h in
-    let near = leb-true (nat_abs (pos 0 +ℤ pos 100 *ℤ lon)) longitude_limit parts.1 in
+    let parts = and_parts (keeps_limit LATITUDE_LIMIT (lat_nano plain_head lat)) (keeps_limit LONGITUDE_LIMIT (lon_nano plain_head lon)) h in
+    let near = leb-true (nat_abs (pos 0 +ℤ pos 100 *ℤ lon)) LONGITUDE_LIMIT parts.1 in
     omega (arith, near, ap nat_abs (+ℤ_idl (pos 100 *ℤ lon)))
 
 kept-is : (z : ℤ) → nat_abs (pos 100 *ℤ z) ≤ 180000000000 → kept z ≡ z

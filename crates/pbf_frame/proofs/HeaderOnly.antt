@@ -5,7 +5,8 @@ use Rattle.std.specs.Int.{w64}
 use Rattle.std.proofs.lemmas.Bool.{and_parts, leb-true}
 use Rattle.std.proofs.lemmas.Int.{to_z-of_z, fits_signed_from_abs}
 use Rattle.std.proofs.lemmas.List.{append_assoc}
-use Rattle.osm_model.specs.Blocks.{is_within, latitude_limit, longitude_limit}
+use Rattle.osm_model.specs.declared.limits.TheConstants.{LATITUDE_LIMIT, LONGITUDE_LIMIT}
+use Rattle.osm_model.specs.Blocks.{keeps_limit}
 use Rattle.pbf_frame.specs.declared.stored.Sides.{Sides}
 use Rattle.pbf_frame.specs.FirstForm.{AreSides, signed_field, bytes_field, bbox, header_block}
 use Rattle.pbf_frame.proofs.Found.{kept}
@@ -35,7 +36,7 @@ pub record AreSmall (s : Sides) : Type 0 where
   pub top : nat_abs s.top < 2 ^ 63
   pub bottom : nat_abs s.bottom < 2 ^ 63
 
-near-small : (limit : ℕ) (z : ℤ) → limit < 2 ^ 63 → is_within limit z ≡ true → nat_abs z < 2 ^ 63
+near-small : (limit : ℕ) (z : ℤ) → limit < 2 ^ 63 → keeps_limit limit z ≡ true → nat_abs z < 2 ^ 63
 near-small limit z small near = let le = leb-true (nat_abs z) limit near in omega (arith, le, small)
 
 pub sides-small : (s : Sides) → AreSides s → AreSmall s
@@ -46,10 +47,10 @@ sides-small s are =
     let (first_two, top) = and_parts _ _ first_three in
     let (left, right) = and_parts _ _ first_two in
     record {
-      left = near-small longitude_limit s.left (omega arith) left;
-      right = near-small longitude_limit s.right (omega arith) right;
-      top = near-small latitude_limit s.top (omega arith) top;
-      bottom = near-small latitude_limit s.bottom (omega arith) bottom;
+      left = near-small LONGITUDE_LIMIT s.left (omega arith) left;
+      right = near-small LONGITUDE_LIMIT s.right (omega arith) right;
+      top = near-small LATITUDE_LIMIT s.top (omega arith) top;
+      bottom = near-small LATITUDE_LIMIT s.bottom (omega arith) bottom;
     }
 
 -- Each side fits a signed number.

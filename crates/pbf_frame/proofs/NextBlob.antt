@@ -3,14 +3,15 @@ use Rattle.std.proofs.Common.{◌≡◌, ◌∙◌, ℕ, ◌+◌, ◌<◌, List,
 use Rattle.std.specs.Prelude.{slice_range}
 use Rattle.std.proofs.lemmas.List.Elements.{filter-append}
 use Rattle.mf_edge.specs.Device.{HasNone}
-use Rattle.osm_model.specs.Frames.{unread, Frame, FrameFault, offset_limit, AreFrames, SpellsFrame, is_known, PassesOver, LeadsTo}
+use Rattle.osm_model.specs.declared.faults.FrameFault.{FrameFault}
+use Rattle.osm_model.specs.declared.limits.TheConstants.{OFFSET_LIMIT}
+use Rattle.osm_model.specs.Frames.{unread, Frame, AreFrames, SpellsFrame, is_known, PassesOver, LeadsTo}
 use Rattle.pbf_frame.specs.declared.frame_fault.NextFault.{NextFault}
 use Rattle.pbf_frame.specs.declared.frame_fault.NextFault.TheVariants as next_fault
 use Rattle.pbf_frame.specs.declared.frame.BlobKind.{BlobKind}
 use Rattle.pbf_frame.specs.declared.frame.BlobKind.TheVariants.{Header, Primitive}
 use Rattle.pbf_frame.specs.declared.frame.Frame as given
 use Rattle.pbf_frame.specs.declared.blob_read.Step.TheVariants.{End, Passed, Kept}
-use Rattle.pbf_frame.specs.BlobSteps.{fault_shown}
 use Rattle.pbf_frame.specs.FrameReading.{Took, BeginsNoBlob, FailsBehind, TakesBlobs, frame_shown, content_shown}
 use Rattle.pbf_frame.specs.BlobReading.{FailsAt, SpellsStep}
 use Rattle.pbf_frame.proofs.TakenSteps.{Took-then}
@@ -23,7 +24,7 @@ frames_join at (f ∷ fs) gs x y (front, rest, placed, near, spelled, more, whol
     let count : at + length x ≡ at + length front + length rest = omega (arith, ap length whole, length-append front rest) in
     (front, rest ++ y, placed, near, spelled, frames_join (at + length front) fs gs rest y more (subst (λ n. AreFrames n y gs) count h), ap (λ b. b ++ y) whole ∙ append_assoc front rest y)
 
-one_frame : (f : Frame) (at : ℕ) (y : List ℕ) → f.at ≡ at → at < offset_limit → SpellsFrame f.content y → AreFrames at y (f ∷ [])
+one_frame : (f : Frame) (at : ℕ) (y : List ℕ) → f.at ≡ at → at < OFFSET_LIMIT → SpellsFrame f.content y → AreFrames at y (f ∷ [])
 one_frame f at y placed near spelled = (y, [], placed, near, spelled, refl, sym (append-nil y))
 
 pub passes-more : (at m : ℕ) (block : List ℕ) (left : Option (List ℕ)) (x y : List ℕ) → PassesOver at x → m ≡ at + length x → SpellsStep m block left Passed y → PassesOver at (x ++ y)
@@ -67,8 +68,8 @@ fails-behind at m told fault left x y h place same begins =
     record { front = x; rest = y; whole = refl; passed = h; place = same ∙ place; begins = subst (λ n. BeginsNoBlob n fault left y) (sym same) begins }
 
 pub takes-fault : (before mid now : Option (List ℕ)) (at m to : ℕ) (block : List ℕ) (r : Result (Option given.Frame) NextFault) (fault : NextFault) → r ≡ Err fault → Took before at (PassesOver at) mid m
-    → FailsAt (λ f bytes. BeginsNoBlob m (fault_shown f) now bytes) m mid m fault now to → TakesBlobs before at block r now to
+    → FailsAt (λ f bytes. BeginsNoBlob m f now bytes) m mid m fault now to → TakesBlobs before at block r now to
 takes-fault before mid now at m to block r (next_fault.Frame told f) e first h =
-    rw e (Took-then before mid now at m to (λ x. PassesOver at x × (m ≡ at + length x)) (λ b. BeginsNoBlob m (fault_shown f) now b) (FailsBehind at told (fault_shown f) now) (counted before mid at m (PassesOver at) first) h.1
-    (λ x y p q. fails-behind at m told (fault_shown f) now x y p.0 p.1 h.0 q))
+    rw e (Took-then before mid now at m to (λ x. PassesOver at x × (m ≡ at + length x)) (λ b. BeginsNoBlob m f now b) (FailsBehind at told f now) (counted before mid at m (PassesOver at) first) h.1
+    (λ x y p q. fails-behind at m told f now x y p.0 p.1 h.0 q))
 takes-fault before mid now at m to block r next_fault.Read e first h = rw e tt

@@ -5,13 +5,13 @@ use Rattle.std.proofs.lemmas.Option.{none-some}
 use Rattle.mf_base.proofs.StepLaws.{ok_is, err_is_no_ok}
 use Rattle.mf_edge.specs.Device.{Takes, HasNone}
 use Rattle.osm_model.specs.Reading.{Reading, stops_at, then_reads}
-use Rattle.osm_model.specs.Frames.{Frame, FrameFault, FrameFaultAt, AreFrames, is_known, known_frames, PassesOver, frames_at, next_known}
+use Rattle.osm_model.specs.declared.faults.FrameFault.{FrameFault}
+use Rattle.osm_model.specs.Frames.{Frame, FrameFaultAt, AreFrames, is_known, known_frames, PassesOver, frames_at, next_known}
 use Rattle.osm_model.proofs.FrameListLaws.{frames-nil, frames-stop, frames-append}
 use Rattle.osm_model.proofs.NextLaws.{leads, passes}
 use Rattle.pbf_frame.specs.declared.frame_fault.NextFault.{NextFault}
 use Rattle.pbf_frame.specs.declared.frame_fault.NextFault.TheVariants as next_fault
 use Rattle.pbf_frame.specs.declared.frame.Frame as given
-use Rattle.pbf_frame.specs.BlobSteps.{fault_shown}
 use Rattle.pbf_frame.specs.FrameReading.{BeginsNoBlob, FailsBehind, TakesBlobs, IsNext, GivesBlob, known_at, frame_shown}
 
 -- ---- the bytes that were taken and those that are left
@@ -51,7 +51,7 @@ is-next before now at to block all (Ok None) h e =
 is-next before now at to block all (Err (next_fault.Frame told f)) h e =
     let (rest, is, whole) = left_told all h.bytes now (rw e at h.taken) in
     let fails = h.holds in
-    ap (λ b. next_known (frames_at at b)) (behind_front at told (fault_shown f) now h.bytes rest all fails whole) ∙ passes at fails.front (fails.rest ++ rest) fails.passed ∙ ap next_known (fails_there at told (fault_shown f) now h.bytes rest is fails)
+    ap (λ b. next_known (frames_at at b)) (behind_front at told f now h.bytes rest all fails whole) ∙ passes at fails.front (fails.rest ++ rest) fails.passed ∙ ap next_known (fails_there at told f now h.bytes rest is fails)
 is-next before now at to block all (Err next_fault.Read) h e = tt
 
 -- ---- what is left to come
@@ -81,8 +81,8 @@ gives-blob before now at to block all rest (Ok None) h e is =
     ∙ ap (λ (read : Reading Frame FrameFaultAt). record { items = known_frames read.items; fault = read.fault }) (frames-nil (at + length h.bytes))
 gives-blob before now at to block all rest (Err (next_fault.Frame told f)) h e is =
     let fails = h.holds in
-    ap (known_at at) (behind_front at told (fault_shown f) now h.bytes rest all fails (taken_is before now all rest h.bytes e is h.taken)) ∙ known_passed at fails.front (fails.rest ++ rest) fails.passed
-    ∙ ap (λ (read : Reading Frame FrameFaultAt). record { items = known_frames read.items; fault = read.fault }) (fails_there at told (fault_shown f) now h.bytes rest is fails)
+    ap (known_at at) (behind_front at told f now h.bytes rest all fails (taken_is before now all rest h.bytes e is h.taken)) ∙ known_passed at fails.front (fails.rest ++ rest) fails.passed
+    ∙ ap (λ (read : Reading Frame FrameFaultAt). record { items = known_frames read.items; fault = read.fault }) (fails_there at told f now h.bytes rest is fails)
 gives-blob before now at to block all rest (Err next_fault.Read) h e is = tt
 
 -- ---- the end
@@ -102,5 +102,5 @@ none_next at all h = ap (λ b. next_known (frames_at at b)) (sym (append-nil all
 pub passes-is_end : (block : List ℕ) (at : ℕ) (all : List ℕ) (r : Result (Option given.Frame) NextFault) → IsNext block r (next_known (frames_at at all)) → r ≢ Err next_fault.Read → PassesOver at all → r ≡ Ok None
 passes-is_end block at all (Ok (Some f)) next read h = absurd (none-some (frame_shown block f) (ok_is None (Some (frame_shown block f)) (sym (none_next at all h) ∙ next)))
 passes-is_end block at all (Ok None) next read h = refl
-passes-is_end block at all (Err (next_fault.Frame told f)) next read h = absurd (err_is_no_ok (record { at = told; fault = fault_shown f }) None (sym next ∙ none_next at all h))
+passes-is_end block at all (Err (next_fault.Frame told f)) next read h = absurd (err_is_no_ok (record { at = told; fault = f }) None (sym next ∙ none_next at all h))
 passes-is_end block at all (Err next_fault.Read) next read h = absurd (read refl)

@@ -12,7 +12,7 @@ use Rattle.mf_base.proofs.SignLaws.{plus_difference}
 use Rattle.mf_base.proofs.OneSpelling.{length-vbe-positive}
 use Rattle.osm_model.specs.Blocks.{is_coordinate}
 use Rattle.osm_model.specs.Wire.{packed_numbers}
-use Rattle.osm_model.specs.Objects.{column, column_from, tag_runs}
+use Rattle.osm_model.specs.Objects.{running_sums, running_sums_from, tag_runs}
 use Rattle.osm_model.proofs.PackedLaws.{runs-append}
 use Rattle.osm_model.proofs.ColumnLaws.{column_from-cons}
 use Rattle.pbf_wire.proofs.PackedReads.{numbers-nil}
@@ -53,21 +53,21 @@ packed_numbers-cons n rest =
     let s = short-spelling n in
     ap (map sevens) (runs-append (vbe_unsigned n) rest s.run) ∙ ap (λ (k : ℕ). k ∷ packed_numbers rest) (sym s.value)
 
-column_from-nil : (before : ℤ) → column_from before [] ≡ []
-unfolding column
+column_from-nil : (before : ℤ) → running_sums_from before [] ≡ []
+unfolding running_sums
 column_from-nil before = refl
 
 numbers-cons : (z before : ℤ) (rest : List ℕ) → numbers_left before (vbe_unsigned (zigzag_of (z -ℤ before)) ++ rest) ≡ z ∷ numbers_left z rest
 numbers-cons z before rest =
     let d : ℤ = z -ℤ before in
-    ap (λ (ns : List ℕ). column_from before (map unzigzag_of ns)) (packed_numbers-cons (zigzag_of d) rest)
-    ∙ ap (λ (x : ℤ). column_from before (x ∷ map unzigzag_of (packed_numbers rest))) (zigzag-there d)
+    ap (λ (ns : List ℕ). running_sums_from before (map unzigzag_of ns)) (packed_numbers-cons (zigzag_of d) rest)
+    ∙ ap (λ (x : ℤ). running_sums_from before (x ∷ map unzigzag_of (packed_numbers rest))) (zigzag-there d)
     ∙ column_from-cons before d (map unzigzag_of (packed_numbers rest))
     ∙ ap (λ (x : ℤ). x ∷ numbers_left x rest) (plus_difference before z)
 
 -- a delta column tells its numbers
 numbers-is : (before : ℤ) (zs : List ℤ) → numbers_left before (packed (differences before zs)) ≡ zs
-numbers-is before [] = ap (λ (ns : List ℕ). column_from before (map unzigzag_of ns)) numbers-nil ∙ column_from-nil before
+numbers-is before [] = ap (λ (ns : List ℕ). running_sums_from before (map unzigzag_of ns)) numbers-nil ∙ column_from-nil before
 numbers-is before (z ∷ zs) = numbers-cons z before (packed (differences z zs)) ∙ ap (λ (ys : List ℤ). z ∷ ys) (numbers-is z zs)
 
 -- ---- nodes

@@ -2,7 +2,7 @@
 use Rattle.std.proofs.Common.{◌≡◌, ℕ, List, [], ◌++◌, refl, arith, Option, Some, None, Result, Ok, Err, length-append}
 use Rattle.mf_edge.specs.Device.{Takes}
 use Rattle.mf_edge.proofs.Taking.{Takes-then}
-use Rattle.pbf_frame.specs.declared.frame_fault.FrameFault.{FrameFault}
+use Rattle.osm_model.specs.declared.faults.FrameFault.{FrameFault}
 use Rattle.pbf_frame.specs.declared.frame_fault.NextFault.{NextFault}
 use Rattle.pbf_frame.specs.declared.frame_fault.NextFault.TheVariants as next_fault
 use Rattle.pbf_frame.specs.FrameReading.{Took}

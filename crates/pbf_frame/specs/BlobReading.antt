@@ -3,16 +3,17 @@ use Rattle.std.specs.Prelude.{◌≡◌, ◌⊎◌, ℕ, ◌+◌, ◌<◌, ◌�
 use Rattle.byteorder.specs.Endian.{big_number}
 use Rattle.mf_base.specs.Spelling.{IsBytes}
 use Rattle.mf_edge.specs.Device.{HasNone}
-use Rattle.osm_model.specs.Frames.{unread, header_limit, offset_limit, SpellsFrame, raw_bytes}
-use Rattle.pbf_frame.specs.declared.frame_fault.FrameFault.{FrameFault}
-use Rattle.pbf_frame.specs.declared.frame_fault.FrameFault.TheVariants.{Truncated}
+use Rattle.osm_model.specs.declared.limits.TheConstants.{HEADER_LIMIT, OFFSET_LIMIT}
+use Rattle.osm_model.specs.Frames.{unread, SpellsFrame, raw_bytes}
+use Rattle.osm_model.specs.declared.faults.FrameFault.{FrameFault}
+use Rattle.osm_model.specs.declared.faults.FrameFault.TheVariants.{Truncated}
 use Rattle.pbf_frame.specs.declared.frame_fault.NextFault.{NextFault}
 use Rattle.pbf_frame.specs.declared.frame_fault.NextFault.TheVariants as next_fault
 use Rattle.pbf_frame.specs.declared.frame.BlobKind.{BlobKind}
 use Rattle.pbf_frame.specs.declared.blob_read.Step.{Step}
 use Rattle.pbf_frame.specs.declared.blob_read.Step.TheVariants.{End, Passed, Kept}
 use Rattle.pbf_frame.specs.declared.blob_head.BlobHead.{BlobHead}
-use Rattle.pbf_frame.specs.BlobSteps.{fault_shown, IsKind, head_of}
+use Rattle.pbf_frame.specs.BlobSteps.{IsKind, head_of}
 use Rattle.pbf_frame.specs.FrameReading.{Took, content_shown}
 
 -- What a fault of a step tells: what was taken, at the blob's offset. Where the source failed nothing is said.
@@ -36,10 +37,10 @@ IsFirst left None bytes = (bytes ≡ []) × HasNone left
 
 -- The four bytes at a blob's offset tell how many bytes its BlobHeader has.
 pub record HasLength (at size : ℕ) (four : List ℕ) : Type 0 where
-  pub near : at < offset_limit
+  pub near : at < OFFSET_LIMIT
   pub count : length four ≡ 4
   pub number : big_number 4 four ≡ size
-  pub few : size ≤ header_limit
+  pub few : size ≤ HEADER_LIMIT
   pub small : IsBytes four
 
 -- The bytes are a BlobHeader of this size that tells this.
@@ -48,7 +49,7 @@ HasHead size head bytes = (length bytes ≡ size) × (kind : List ℕ) × IsKind
 
 -- The BlobHeader of this size is cut, or is refused.
 abbrev pub HeadFails : ℕ → Option (List ℕ) → FrameFault → List ℕ → Type 0
-HeadFails size left fault bytes = IsCut 0 size left fault bytes ⊎ ((length bytes ≡ size) × (head_of bytes ≡ Err (fault_shown fault)))
+HeadFails size left fault bytes = IsCut 0 size left fault bytes ⊎ ((length bytes ≡ size) × (head_of bytes ≡ Err fault))
 
 -- The bytes are a Blob whose raw bytes are in the block, or one that was passed over.
 abbrev pub HoldsBlob : Option BlobKind → ℕ → List ℕ → Step → List ℕ → Type 0
@@ -60,10 +61,10 @@ HoldsBlob kind at block End bytes = ⊥
 
 -- The Blob is cut, or is refused, which happens to those alone that are read.
 abbrev pub BlobFails : BlobHead → Option (List ℕ) → FrameFault → List ℕ → Type 0
-BlobFails head left fault bytes = IsCut 0 head.size left fault bytes ⊎ ((length bytes ≡ head.size) × IsSome head.kind × (raw_bytes bytes ≡ Err (fault_shown fault)))
+BlobFails head left fault bytes = IsCut 0 head.size left fault bytes ⊎ ((length bytes ≡ head.size) × IsSome head.kind × (raw_bytes bytes ≡ Err fault))
 
 -- What the bytes at a blob's offset spell: nothing at the end of the input, a blob that was passed over, or one whose raw bytes are in the block.
 abbrev pub SpellsStep : ℕ → List ℕ → Option (List ℕ) → Step → List ℕ → Type 0
 SpellsStep at block left End bytes = (bytes ≡ []) × HasNone left
-SpellsStep at block left Passed bytes = (at < offset_limit) × (kind : List ℕ) × SpellsFrame (unread kind) bytes
-SpellsStep at block left (Kept f) bytes = (at < offset_limit) × (f.at ≡ at) × SpellsFrame (content_shown f.kind (slice_range block f.start f.end)) bytes
+SpellsStep at block left Passed bytes = (at < OFFSET_LIMIT) × (kind : List ℕ) × SpellsFrame (unread kind) bytes
+SpellsStep at block left (Kept f) bytes = (at < OFFSET_LIMIT) × (f.at ≡ at) × SpellsFrame (content_shown f.kind (slice_range block f.start f.end)) bytes

@@ -2,30 +2,16 @@
 use Rattle.std.specs.Prelude.{◌≡◌, ◌≢◌, ℕ, nat_le, List, [], ◌∷◌, length, filter_map, slice_range, Option, Some, None, option_map, ok_or, Result, Ok, Err, codes}
 use Rattle.std.specs.List.{last_or}
 use Rattle.mf_base.specs.Steps.{◌>>=◌, require, told_as}
+use Rattle.osm_model.specs.declared.numbers.TheConstants.{BLOB_HEADER_TYPE, BLOB_HEADER_DATASIZE}
+use Rattle.osm_model.specs.declared.limits.TheConstants.{BLOB_LIMIT}
+use Rattle.osm_model.specs.declared.tables.TheConstants.{BLOB_HEADER}
 use Rattle.osm_model.specs.Wire as wire
-use Rattle.osm_model.specs.Tables.{message, blob_header, once_of, number_of, values_of, bytes_of, varint_in}
-use Rattle.osm_model.specs.Frames as model
-use Rattle.osm_model.specs.Frames.{Content, header, primitive, unread, blob_limit, header_wire, no_type, no_size, blob_size, raw_bytes, frame_front}
-use Rattle.pbf_wire.specs.Check.{refusal_shown}
-use Rattle.pbf_frame.specs.declared.frame_fault.FrameFault.{FrameFault}
-use Rattle.pbf_frame.specs.declared.frame_fault.FrameFault.TheVariants.{TooLong, Truncated, HeaderLength, HeaderWire, NoKind, NoSize, BlobSize, BlobWire, Compressed, NoBytes, RawSize}
+use Rattle.osm_model.specs.Tables.{message, once_of, number_of, values_of, bytes_of, varint_in}
+use Rattle.osm_model.specs.declared.faults.FrameFault.{FrameFault}
+use Rattle.osm_model.specs.declared.faults.FrameFault.TheVariants.{HeaderWire, NoKind, NoSize, BlobSize}
 use Rattle.pbf_frame.specs.declared.frame.BlobKind.{BlobKind}
 use Rattle.pbf_frame.specs.declared.frame.BlobKind.TheVariants.{Header, Primitive}
 use Rattle.pbf_frame.specs.declared.blob_head.BlobHead.{BlobHead}
-
--- the fault that a fault of the reader tells
-abbrev pub fault_shown : FrameFault → model.FrameFault
-fault_shown TooLong = model.too_long
-fault_shown (Truncated have) = model.truncated have
-fault_shown HeaderLength = model.header_length
-fault_shown (HeaderWire fault) = model.header_wire (refusal_shown fault)
-fault_shown NoKind = model.no_type
-fault_shown NoSize = model.no_size
-fault_shown BlobSize = model.blob_size
-fault_shown (BlobWire fault) = model.blob_wire (refusal_shown fault)
-fault_shown (Compressed k) = model.compressed k
-fault_shown NoBytes = model.no_data
-fault_shown (RawSize told found) = model.raw_size told found
 
 -- ---- fields
 
@@ -44,12 +30,12 @@ numbers_behind before k fs = last_or before (filter_map varint_in (values_of k f
 -- ---- the BlobHeader
 
 -- the type and the datasize of a BlobHeader, or its first fault
-unfoldable pub head_of : List ℕ → Result (List ℕ × ℕ) model.FrameFault
+unfoldable pub head_of : List ℕ → Result (List ℕ × ℕ) FrameFault
 head_of head = do
-  parts ← told_as header_wire (message blob_header head)
-  kind ← ok_or (once_of 1 parts) no_type
-  size ← ok_or (number_of 3 parts) no_size
-  _ ← require (nat_le size blob_limit) blob_size
+  parts ← told_as HeaderWire (message BLOB_HEADER head)
+  kind ← ok_or (once_of BLOB_HEADER_TYPE parts) NoKind
+  size ← ok_or (number_of BLOB_HEADER_DATASIZE parts) NoSize
+  _ ← require (nat_le size BLOB_LIMIT) BlobSize
   Ok (kind, size)
 
 -- The type is that of blobs that are read, or another.
@@ -59,18 +45,13 @@ IsKind (Some Primitive) kind = kind ≡ codes "OSMData"
 IsKind None kind = (kind ≢ codes "OSMHeader") × (kind ≢ codes "OSMData")
 
 -- What was read of a BlobHeader is its type and its datasize, or its first fault.
-abbrev pub TellsHead : Result BlobHead FrameFault → Result (List ℕ × ℕ) model.FrameFault → Type 0
+abbrev pub TellsHead : Result BlobHead FrameFault → Result (List ℕ × ℕ) FrameFault → Type 0
 TellsHead (Ok h) told = (kind : List ℕ) × IsKind h.kind kind × (told ≡ Ok (kind, h.size))
-TellsHead (Err fault) told = told ≡ Err (fault_shown fault)
+TellsHead (Err fault) told = told ≡ Err fault
 
 -- ---- the Blob
 
 -- the raw bytes at the place that was found, or the fault
-abbrev pub raw_shown : List ℕ → Result (ℕ × ℕ) FrameFault → Result (List ℕ) model.FrameFault
+abbrev pub raw_shown : List ℕ → Result (ℕ × ℕ) FrameFault → Result (List ℕ) FrameFault
 raw_shown bytes (Ok place) = Ok (slice_range bytes place.0 place.1)
-raw_shown bytes (Err fault) = Err (fault_shown fault)
-
--- the fault that was told, if one was
-abbrev pub size_shown : {A : Type 0} → Result A FrameFault → Option model.FrameFault
-size_shown (Ok x) = None
-size_shown (Err fault) = Some (fault_shown fault)
+raw_shown bytes (Err fault) = Err fault

@@ -3,7 +3,7 @@ use Rattle.std.specs.Prelude.{◌≡◌, ℕ, ◌^◌, ◌<◌, true, nat_lt, na
 use Rattle.mf_base.specs.Spelling.{vbe_unsigned, zigzag_of, unzigzag_of}
 use Rattle.osm_model.specs.Wire.{packed_numbers}
 use Rattle.osm_model.specs.Blocks.{is_coordinate}
-use Rattle.osm_model.specs.Objects.{column_from, TagRun, tag_runs}
+use Rattle.osm_model.specs.Objects.{running_sums_from, TagRun, tag_runs}
 use Rattle.pbf_frame.specs.declared.stored.StoredNode.{StoredNode}
 use Rattle.pbf_frame.specs.FirstForm.{bytes_field, packed, differences, tag_part, plain_head, AreFirstNodes}
 
@@ -57,7 +57,7 @@ pub record BeginWith (c : ColumnsLeft) (n : StoredNode) (left : ColumnsLeft) : T
 
 -- the numbers of a delta column of sint64, behind a number
 abbrev pub numbers_left : ℤ → List ℕ → List ℤ
-numbers_left before bytes = column_from before (map unzigzag_of (packed_numbers bytes))
+numbers_left before bytes = running_sums_from before (map unzigzag_of (packed_numbers bytes))
 
 -- ids, latitudes, longitudes and runs of keys_vals side by side
 abbrev pub side_by_side : List ℤ → List ℤ → List ℤ → List TagRun → List StoredNode

@@ -1,15 +1,15 @@
 -- What the reader of blobs tells of the bytes that it took from a source. This project's own.
 use Rattle.std.specs.Prelude.{◌≡◌, ◌≢◌, ◌⊎◌, ℕ, ◌+◌, List, [], ◌++◌, length, slice_range, Option, Some, None, option_map, Result, Ok, Err, ⊤}
 use Rattle.mf_edge.specs.Device.{Takes, HasNone}
+use Rattle.osm_model.specs.declared.faults.FrameFault.{FrameFault}
 use Rattle.osm_model.specs.Reading.{Reading, all_read, stops_at, then_reads}
 use Rattle.osm_model.specs.Frames as model
-use Rattle.osm_model.specs.Frames.{Content, header, primitive, unread, header_limit, offset_limit, SpellsFrame, FrameFaultAt, raw_bytes, frame_front, frames_at, known_frames, PassesOver, LeadsTo}
+use Rattle.osm_model.specs.Frames.{Content, header, primitive, unread, SpellsFrame, FrameFaultAt, raw_bytes, frame_front, frames_at, known_frames, PassesOver, LeadsTo}
 use Rattle.pbf_frame.specs.declared.frame_fault.NextFault.{NextFault}
 use Rattle.pbf_frame.specs.declared.frame_fault.NextFault.TheVariants as next_fault
 use Rattle.pbf_frame.specs.declared.frame.BlobKind.{BlobKind}
 use Rattle.pbf_frame.specs.declared.frame.BlobKind.TheVariants.{Header, Primitive}
 use Rattle.pbf_frame.specs.declared.frame.Frame.{Frame}
-use Rattle.pbf_frame.specs.BlobSteps.{fault_shown}
 
 -- ---- what was taken
 
@@ -21,7 +21,7 @@ pub record Took (before : Option (List ℕ)) (at : ℕ) (Holds : List ℕ → Ty
   pub holds : Holds bytes
 
 -- The bytes at this offset, of which there are some, begin with no blob for this fault, whatever follows them, or because the input ends behind them.
-abbrev pub BeginsNoBlob : ℕ → model.FrameFault → Option (List ℕ) → List ℕ → Type 0
+abbrev pub BeginsNoBlob : ℕ → FrameFault → Option (List ℕ) → List ℕ → Type 0
 BeginsNoBlob at fault left bytes = (bytes ≢ []) × (((more : List ℕ) → frame_front at (bytes ++ more) ≡ Err fault) ⊎ ((frame_front at bytes ≡ Err fault) × HasNone left))
 
 -- ---- the next blob
@@ -36,7 +36,7 @@ abbrev pub frame_shown : List ℕ → Frame → model.Frame
 frame_shown block f = record { at = f.at; content = content_shown f.kind (slice_range block f.start f.end) }
 
 -- The bytes at this offset are blobs that are passed over, and then some that begin with no blob.
-pub record FailsBehind (at told : ℕ) (fault : model.FrameFault) (left : Option (List ℕ)) (bytes : List ℕ) : Type 0 where
+pub record FailsBehind (at told : ℕ) (fault : FrameFault) (left : Option (List ℕ)) (bytes : List ℕ) : Type 0 where
   pub front : List ℕ
   pub rest : List ℕ
   pub whole : bytes ≡ front ++ rest
@@ -48,13 +48,13 @@ pub record FailsBehind (at told : ℕ) (fault : model.FrameFault) (left : Option
 abbrev pub TakesBlobs : Option (List ℕ) → ℕ → List ℕ → Result (Option Frame) NextFault → Option (List ℕ) → ℕ → Type 0
 TakesBlobs before at block (Ok (Some f)) now to = Took before at (λ bytes. LeadsTo at bytes (frame_shown block f)) now to
 TakesBlobs before at block (Ok None) now to = Took before at (λ bytes. PassesOver at bytes × HasNone now) now to
-TakesBlobs before at block (Err (next_fault.Frame told fault)) now to = Took before at (FailsBehind at told (fault_shown fault) now) now to
+TakesBlobs before at block (Err (next_fault.Frame told fault)) now to = Took before at (FailsBehind at told fault now) now to
 TakesBlobs before at block (Err next_fault.Read) now to = ⊤
 
 -- What was answered is the next blob of a known type, or the fault before it, or None at the end of the input. Where the source failed nothing is said.
 abbrev pub IsNext : List ℕ → Result (Option Frame) NextFault → Result (Option model.Frame) FrameFaultAt → Type 0
 IsNext block (Ok found) next = next ≡ Ok (option_map (frame_shown block) found)
-IsNext block (Err (next_fault.Frame at fault)) next = next ≡ Err (record { at = at; fault = fault_shown fault })
+IsNext block (Err (next_fault.Frame at fault)) next = next ≡ Err (record { at = at; fault = fault })
 IsNext block (Err next_fault.Read) next = ⊤
 
 -- the blobs of known types in bytes from this offset on, and the first fault
@@ -65,5 +65,5 @@ known_at at bytes = let read = frames_at at bytes in record { items = known_fram
 abbrev pub GivesBlob : List ℕ → Result (Option Frame) NextFault → Reading model.Frame FrameFaultAt → Reading model.Frame FrameFaultAt → Type 0
 GivesBlob block (Ok (Some f)) before now = before ≡ then_reads (frame_shown block f) now
 GivesBlob block (Ok None) before now = before ≡ all_read
-GivesBlob block (Err (next_fault.Frame at fault)) before now = before ≡ stops_at (record { at = at; fault = fault_shown fault })
+GivesBlob block (Err (next_fault.Frame at fault)) before now = before ≡ stops_at (record { at = at; fault = fault })
 GivesBlob block (Err next_fault.Read) before now = ⊤

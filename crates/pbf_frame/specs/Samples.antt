@@ -1,6 +1,6 @@
 -- Worked inputs of the first form: this project's rows.
 use Rattle.std.specs.Prelude.{ℕ, List, [], ◌∷◌, ◌++◌, codes, pos, negsuc, Some, None, true, false}
-use Rattle.osm_model.specs.Samples.{hex, part, header_alone, data_blob}
+use Rattle.osm_model.specs.Samples.{hex, len_field, header_alone, data_blob}
 use Rattle.pbf_frame.specs.FirstForm.{FirstValue}
 
 -- one bench at (0, 0), and a box of one degree each way
@@ -31,4 +31,4 @@ three_value = record {
 
 -- its bytes: the differences of the ids are 2, 3 and 65, of the latitudes 10, -30 and 20, of the longitudes 1799999990, -3599999980 and 1799999990
 abbrev pub three_benches : List ℕ
-three_benches = header_alone ++ data_blob (part 2 (hex "0A 04 04 06 82 01 42 03 14 3B 28 4A 0F EC C7 CE B4 0D D7 8F 9D E9 1A EC C7 CE B4 0D 52 07 01 02 00 00 01 02 00"))
+three_benches = header_alone ++ data_blob (len_field 2 (hex "0A 04 04 06 82 01 42 03 14 3B 28 4A 0F EC C7 CE B4 0D D7 8F 9D E9 1A EC C7 CE B4 0D 52 07 01 02 00 00 01 02 00"))

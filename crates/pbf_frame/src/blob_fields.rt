@@ -8,6 +8,7 @@ ghost use Rattle.osm_model.specs.Frames.{compressed_of};
 ghost use Rattle.pbf_wire.specs.Shown.{ShowsField};
 ghost use Rattle.pbf_frame.specs.BlobSteps.{place_shown, HasBytes, numbers_behind};
 
+use osm_model::numbers::{BLOB_ZLIB_DATA, BLOB_ZSTD_DATA};
 use pbf_wire::fields::{Field, Fields, Value};
 
 // Where in a message the bytes of the first field with this number stand, of those that have bytes.
@@ -43,7 +44,7 @@ pub(crate) fn compressed_in(blob: &[u8]) -> Option<u32>
 {
     let mut fields = Fields::new(blob);
     while let Ok(Some(field)) = fields.next() {
-        if field.number >= 3 && field.number <= 7 {
+        if field.number >= BLOB_ZLIB_DATA && field.number <= BLOB_ZSTD_DATA {
             return Some(field.number);
         }
     }

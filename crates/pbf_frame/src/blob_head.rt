@@ -6,11 +6,10 @@ ghost use Rattle.pbf_frame.specs.BlobSteps.{head_of, TellsHead, IsKind};
 use crate::blob_fields::{bytes_place, number_in};
 use crate::frame::BlobKind;
 use crate::frame_fault::FrameFault;
+use osm_model::limits::BLOB_LIMIT;
+use osm_model::numbers::{BLOB_HEADER_DATASIZE, BLOB_HEADER_TYPE};
 use pbf_wire::check::check_message;
 use pbf_wire::tables::BLOB_HEADER;
-
-// A Blob has at most this many bytes.
-const BLOB_LIMIT: u64 = 33_554_432;
 
 // What a BlobHeader tells: the type, where it is one that is read, and how many bytes the Blob has.
 #[derive(Clone, Copy)]
@@ -22,15 +21,15 @@ pub(crate) struct BlobHead {
 // Reads a BlobHeader.
 pub(crate) fn blob_head(head: &[u8]) -> Result<BlobHead, FrameFault>
     ensures tells { TellsHead result (head_of head.now) }
-    ensures within { IfOk result (λ found. found.size ≤ 33554432) }
+    ensures within { IfOk result (λ found. found.size ≤ BLOB_LIMIT) }
 {
     if let Err(fault) = check_message(head, &BLOB_HEADER) {
         return Err(FrameFault::HeaderWire(fault));
     }
-    let Some((start, end)) = bytes_place(head, 1) else {
+    let Some((start, end)) = bytes_place(head, BLOB_HEADER_TYPE) else {
         return Err(FrameFault::NoKind);
     };
-    let Some(size) = number_in(head, 3) else {
+    let Some(size) = number_in(head, BLOB_HEADER_DATASIZE) else {
         return Err(FrameFault::NoSize);
     };
     if size > BLOB_LIMIT {

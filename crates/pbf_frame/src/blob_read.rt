@@ -4,7 +4,6 @@ ghost use Rattle.std.specs.Prelude.{◌≡◌, ◌⊎◌, ◌+◌, ◌-◌, ◌*
 ghost use Rattle.byteorder.specs.Endian.{big_number};
 ghost use Rattle.mf_base.specs.Spelling.{IsBytes};
 ghost use Rattle.mf_edge.specs.Device.{CountsOne};
-ghost use Rattle.pbf_frame.specs.BlobSteps.{fault_shown};
 ghost use Rattle.pbf_frame.specs.FrameReading.{BeginsNoBlob};
 ghost use Rattle.pbf_frame.specs.BlobReading.{Tells, IsCut, IsFirst, HasLength, HasHead, HeadFails, HoldsBlob, BlobFails, SpellsStep};
 
@@ -14,12 +13,7 @@ use crate::frame::{BlobKind, Frame};
 use crate::frame_fault::{FrameFault, NextFault};
 use byteorder::{BigEndian, ByteOrder};
 use mf_edge::{Block, FillFault, Source, Stream};
-
-// Each blob begins before this offset in the input, in bytes: 2^62.
-const OFFSET_LIMIT: u64 = 4_611_686_018_427_387_904;
-
-// A BlobHeader has at most this many bytes.
-const HEADER_LIMIT: u32 = 65_535;
+use osm_model::limits::{HEADER_LIMIT, OFFSET_LIMIT};
 
 // What stands at an offset.
 #[derive(Clone, Copy)]
@@ -39,7 +33,7 @@ pub(crate) fn read_blob<S: Source>(
 ) -> Result<Step, NextFault>
     requires room { 33554432 ≤ block.old.capacity }
     requires offset { src.old.offset < 2 ^ 63 - 1 }
-    ensures tells { Tells (SpellsStep src.old.offset block.new.bytes (S.state src.new.source.now).left) (λ fault bytes. BeginsNoBlob src.old.offset (fault_shown fault) (S.state src.new.source.now).left bytes) src.old.offset (S.state src.old.source.now).left src.old.offset result (S.state src.new.source.now).left src.new.offset }
+    ensures tells { Tells (SpellsStep src.old.offset block.new.bytes (S.state src.new.source.now).left) (λ fault bytes. BeginsNoBlob src.old.offset fault (S.state src.new.source.now).left bytes) src.old.offset (S.state src.old.source.now).left src.old.offset result (S.state src.new.source.now).left src.new.offset }
 
     ensures read { result ≡ Err NextFault.Read → CountsOne (S.state src.old.source.now).faults (S.state src.new.source.now).faults }
     ensures same_faults { result ≢ Err NextFault.Read → (S.state src.new.source.now).faults ≡ (S.state src.old.source.now).faults }
@@ -97,7 +91,7 @@ fn head_size<S: Source>(
     requires room { 3 ≤ block.old.capacity }
     requires offset { src.old.offset ≡ at + 1 }
     requires within { at < 2 ^ 63 - 1 }
-    ensures tells { Tells (λ size bytes. HasLength at size (first ∷ bytes)) (λ fault bytes. BeginsNoBlob at (fault_shown fault) (S.state src.new.source.now).left (first ∷ bytes)) at (S.state src.old.source.now).left src.old.offset result (S.state src.new.source.now).left src.new.offset }
+    ensures tells { Tells (λ size bytes. HasLength at size (first ∷ bytes)) (λ fault bytes. BeginsNoBlob at fault (S.state src.new.source.now).left (first ∷ bytes)) at (S.state src.old.source.now).left src.old.offset result (S.state src.new.source.now).left src.new.offset }
 
     ensures read { result ≡ Err NextFault.Read → CountsOne (S.state src.old.source.now).faults (S.state src.new.source.now).faults }
     ensures same_faults { result ≢ Err NextFault.Read → (S.state src.new.source.now).faults ≡ (S.state src.old.source.now).faults }

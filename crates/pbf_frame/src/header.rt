@@ -1,12 +1,13 @@
 //! The HeaderBlock of the first form.
 
 ghost use Rattle.std.specs.Prelude.{◌≡◌, ◌&&◌, IfSome, Some, int_le};
-ghost use Rattle.osm_model.specs.Blocks.{are_sides, is_within, longitude_limit, latitude_limit};
+ghost use Rattle.osm_model.specs.Blocks.{are_sides, keeps_limit};
 ghost use Rattle.pbf_frame.specs.FirstForm.{AreSides, bbox, header_block};
 ghost use Rattle.pbf_frame.specs.declared.stored.Sides.{Sides};
 
 use crate::parts::{field, is_end, is_same, last_field, signed_at};
 use crate::stored::Sides;
+use osm_model::limits::{LATITUDE_LIMIT, LONGITUDE_LIMIT};
 
 // The sides of the box of a HeaderBlock.
 #[tactic(auto, using(crate::proofs::Found::block_steps))]
@@ -59,12 +60,12 @@ fn are_in_order(sides: &Sides) -> bool
 
 // The sides are on the earth.
 fn are_on_earth(sides: &Sides) -> bool
-    ensures { result ≡ (is_within longitude_limit sides.now.left && is_within longitude_limit sides.now.right && is_within latitude_limit sides.now.top && is_within latitude_limit sides.now.bottom) }
+    ensures { result ≡ (keeps_limit LONGITUDE_LIMIT sides.now.left && keeps_limit LONGITUDE_LIMIT sides.now.right && keeps_limit LATITUDE_LIMIT sides.now.top && keeps_limit LATITUDE_LIMIT sides.now.bottom) }
 {
-    is_near(180_000_000_000, sides.left)
-        && is_near(180_000_000_000, sides.right)
-        && is_near(90_000_000_000, sides.top)
-        && is_near(90_000_000_000, sides.bottom)
+    is_near(LONGITUDE_LIMIT, sides.left)
+        && is_near(LONGITUDE_LIMIT, sides.right)
+        && is_near(LATITUDE_LIMIT, sides.top)
+        && is_near(LATITUDE_LIMIT, sides.bottom)
 }
 
 // A side is not above another.
@@ -76,7 +77,7 @@ fn is_at_most(low: i64, high: i64) -> bool
 
 // The nanodegrees lie within the limit on both sides of 0.
 fn is_near(limit: u64, nano: i64) -> bool
-    ensures { result ≡ is_within limit nano }
+    ensures { result ≡ keeps_limit limit nano }
 {
     nano.unsigned_abs() <= limit
 }

@@ -1,22 +1,7 @@
--- What the check of a message answers, in the words of the definitions.
-use Rattle.std.specs.Prelude.{◌≡◌, ◌==◌, ℕ, Bool, false, List, position, slice_index_or, Option, Some, None, Result, Ok, Err}
+-- What the check of a message notes of the fields that it has seen. This project's own.
+use Rattle.std.specs.Prelude.{◌≡◌, ◌==◌, ℕ, Bool, false, List, position, slice_index_or, Option, Some}
 use Rattle.std.specs.List.{list_any}
-use Rattle.osm_model.specs.Tables as tables
-use Rattle.pbf_wire.specs.Shown.{fault_shown}
-use Rattle.pbf_wire.specs.declared.check.MessageFault.{MessageFault}
-use Rattle.pbf_wire.specs.declared.check.MessageFault.TheVariants.{Wire, Form, Twice}
-use Rattle.pbf_wire.specs.declared.rules.FieldRule.{FieldRule}
-
--- the fault that a fault of the check tells
-abbrev pub refusal_shown : MessageFault → tables.MessageFault
-refusal_shown (Wire fault) = tables.wire (fault_shown fault)
-refusal_shown (Form k) = tables.form k
-refusal_shown (Twice k) = tables.twice k
-
--- the fault that the check's answer tells, if it tells one
-abbrev pub answer_shown : {A : Type 0} → Result A MessageFault → Option tables.MessageFault
-answer_shown (Ok x) = None
-answer_shown (Err fault) = Some (refusal_shown fault)
+use Rattle.osm_model.specs.declared.rules.FieldRule.{FieldRule}
 
 -- the place of the first rule of field k
 abbrev pub place_in : List FieldRule → ℕ → Option ℕ

@@ -3,17 +3,10 @@ use Rattle.std.specs.Prelude.{◌≡◌, ◌⊎◌, ℕ, ◌<◌, List, length, 
 use Rattle.osm_model.specs.Reading.{Reading, all_read, stops_at, then_reads}
 use Rattle.osm_model.specs.Wire as wire
 use Rattle.osm_model.specs.Wire.{field_front, fields, varint, i64, len, i32}
-use Rattle.pbf_wire.specs.declared.fields.WireFault.{WireFault}
-use Rattle.pbf_wire.specs.declared.fields.WireFault.TheVariants.{Varint, Kind, Length}
+use Rattle.osm_model.specs.declared.faults.WireFault.{WireFault}
 use Rattle.pbf_wire.specs.declared.fields.Value.{Value}
 use Rattle.pbf_wire.specs.declared.fields.Value.TheVariants.{Number, Bytes, Fixed}
 use Rattle.pbf_wire.specs.declared.fields.Field.{Field}
-
--- the fault that a fault of the reader tells
-abbrev pub fault_shown : WireFault → wire.WireFault
-fault_shown Varint = wire.varint_fault
-fault_shown Kind = wire.kind_fault
-fault_shown Length = wire.length_fault
 
 -- The reader's value shows the value of a field: a varint's number, the bytes behind a length, and of eight or four bytes only that they are there.
 abbrev pub ShowsValue : Value → wire.Value → Type 0
@@ -26,9 +19,9 @@ abbrev pub ShowsField : Field → wire.Field → Type 0
 ShowsField shown field = (shown.number ≡ field.number) × ShowsValue shown.value field.value
 
 -- What was read shows what the bytes begin with, and takes as many of them; or it tells the first fault.
-abbrev pub Gives : {A B : Type 0} → (A → B → Type 0) → Result (A × ℕ) WireFault → Result (B × ℕ) wire.WireFault → Type 0
+abbrev pub Gives : {A B : Type 0} → (A → B → Type 0) → Result (A × ℕ) WireFault → Result (B × ℕ) WireFault → Type 0
 Gives {B} Shows (Ok found) front = (x : B) × Shows found.0 x × (front ≡ Ok (x, found.1))
-Gives Shows (Err fault) front = front ≡ Err (fault_shown fault)
+Gives Shows (Err fault) front = front ≡ Err fault
 
 -- The bytes left begin with a field, of which the reader shows so much, and behind it stand these.
 pub record BeginsWith (left : List ℕ) (shown : Field) (rest : List ℕ) : Type 0 where
@@ -40,7 +33,7 @@ pub record BeginsWith (left : List ℕ) (shown : Field) (rest : List ℕ) : Type
   pub shorter : length rest < length left
 
 -- Of the fields to be read, the reader gives the first and leaves the others, or it tells that none is there, or the fault that stands there.
-abbrev pub GivesNext : Reading wire.Field wire.WireFault → Result (Option Field) WireFault → Reading wire.Field wire.WireFault → Type 0
+abbrev pub GivesNext : Reading wire.Field WireFault → Result (Option Field) WireFault → Reading wire.Field WireFault → Type 0
 GivesNext read (Ok (Some shown)) rest = (field : wire.Field) × ShowsField shown field × (read ≡ then_reads field rest)
 GivesNext read (Ok None) rest = (read ≡ all_read) × (rest ≡ read)
-GivesNext read (Err fault) rest = (read ≡ stops_at (fault_shown fault)) × (rest ≡ read)
+GivesNext read (Err fault) rest = (read ≡ stops_at fault) × (rest ≡ read)

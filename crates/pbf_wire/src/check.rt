@@ -2,43 +2,29 @@
 
 ghost use Rattle.std.specs.Prelude.{◌≡◌, ◌==◌, ℕ, List, [], ◌∷◌, length, OnOk, position};
 ghost use Rattle.std.specs.List.{list_any};
+ghost use Rattle.mf_base.specs.Steps.{fault_of};
 ghost use Rattle.osm_model.specs.Wire as model;
 ghost use Rattle.osm_model.specs.Wire.{fields};
 ghost use Rattle.osm_model.specs.Tables.{message, FitsTable, form_fault, field_fault, message_fault};
 ghost use Rattle.pbf_wire.specs.Shown.{ShowsValue, ShowsField};
-ghost use Rattle.pbf_wire.specs.Rules.{form_shown, table_of};
-ghost use Rattle.pbf_wire.specs.Check.{answer_shown, Notes, place_in};
+ghost use Rattle.pbf_wire.specs.Check.{Notes, place_in};
 
 use crate::fields::{Field, Fields, Value, WireFault};
 use crate::packed::is_whole;
 use crate::rules::{FieldRule, Form};
-use thiserror::Error;
-
-/// Why bytes are no message of a table: the first fault, field by field.
-#[derive(Clone, Copy, Debug, PartialEq, Eq, Error)]
-pub enum MessageFault {
-    /// A field has no spelling, or a packed list is no list of whole varints.
-    #[error("{0}")]
-    Wire(WireFault),
-    /// The field is not of its form's wire type.
-    #[error("field {field} has another wire type")]
-    Form { field: u32 },
-    /// The field stands at most once, and comes again.
-    #[error("field {field} comes twice")]
-    Twice { field: u32 },
-}
+pub use osm_model::faults::MessageFault;
 
 /// Whether `bytes` are a message of the table. Fields that are not in the table are passed over, of whatever type.
 pub fn check_message<const N: usize>(
     bytes: &[u8],
     rules: &[FieldRule; N],
 ) -> Result<(), MessageFault>
-    ensures exact { answer_shown result ≡ message_fault (table_of rules.now) bytes.now }
+    ensures exact { fault_of result ≡ message_fault rules.now bytes.now }
 
     // What is accepted is a message of the table: all its fields are read, and they fit it.
-    ensures message { OnOk result (message (table_of rules.now) bytes.now ≡ Ok (fields bytes.now).items) }
+    ensures message { OnOk result (message rules.now bytes.now ≡ Ok (fields bytes.now).items) }
     ensures whole { OnOk result ((fields bytes.now).fault ≡ None) }
-    ensures fits { OnOk result (FitsTable (table_of rules.now) (fields bytes.now).items) }
+    ensures fits { OnOk result (FitsTable rules.now (fields bytes.now).items) }
 {
     let mut seen = [false; N];
     check_fields(bytes, rules, &mut seen)
@@ -48,7 +34,7 @@ pub fn check_message<const N: usize>(
 fn check_fields(bytes: &[u8], rules: &[FieldRule], seen: &mut [bool]) -> Result<(), MessageFault>
     requires same { length seen.old ≡ length rules.now }
     requires none { Notes rules.now [] seen.old }
-    ensures { answer_shown result ≡ message_fault (table_of rules.now) bytes.now }
+    ensures { fault_of result ≡ message_fault rules.now bytes.now }
 {
     let mut fields = Fields::new(bytes);
     loop {
@@ -63,7 +49,7 @@ fn check_fields(bytes: &[u8], rules: &[FieldRule], seen: &mut [bool]) -> Result<
 // Whether a field fits the table, behind others; that it stood is noted.
 fn check_field(field: &Field, rules: &[FieldRule], seen: &mut [bool]) -> Result<(), MessageFault>
     requires same { length seen.old ≡ length rules.now }
-    ensures exact { (before : List ℕ) (shown : model.Field) → ShowsField field.now shown → Notes rules.now before seen.old → answer_shown result ≡ field_fault (table_of rules.now) before shown }
+    ensures exact { (before : List ℕ) (shown : model.Field) → ShowsField field.now shown → Notes rules.now before seen.old → fault_of result ≡ field_fault rules.now before shown }
     ensures notes { (before : List ℕ) → Notes rules.now before seen.old → Notes rules.now (field.now.number ∷ before) seen.new }
 {
     match place_of(rules, field.number) {
@@ -85,7 +71,7 @@ fn place_of(rules: &[FieldRule], number: u32) -> Option<usize>
 
 // Whether a field has its form; `again` says that it stood already.
 fn check_value(form: Form, again: bool, field: &Field) -> Result<(), MessageFault>
-    ensures { (before : List ℕ) (value : model.Value) → ShowsValue field.now.value value → again ≡ list_any (λ j. j == field.now.number) before → answer_shown result ≡ form_fault (form_shown form) before field.now.number value }
+    ensures { (before : List ℕ) (value : model.Value) → ShowsValue field.now.value value → again ≡ list_any (λ j. j == field.now.number) before → fault_of result ≡ form_fault form before field.now.number value }
 {
     match field.value {
         Value::Number(_) => check_number(form, field.number),
@@ -98,7 +84,7 @@ fn check_value(form: Form, again: bool, field: &Field) -> Result<(), MessageFaul
 
 // Whether a varint has the form of its field.
 fn check_number(form: Form, field: u32) -> Result<(), MessageFault>
-    ensures { (before : List ℕ) (n : ℕ) → answer_shown result ≡ form_fault (form_shown form) before field (model.varint n) }
+    ensures { (before : List ℕ) (n : ℕ) → fault_of result ≡ form_fault form before field (model.varint n) }
 {
     match form {
         Form::Number => Ok(()),
@@ -108,7 +94,7 @@ fn check_number(form: Form, field: u32) -> Result<(), MessageFault>
 
 // Whether bytes have the form of their field.
 fn check_bytes(form: Form, again: bool, field: u32, bytes: &[u8]) -> Result<(), MessageFault>
-    ensures { (before : List ℕ) → again ≡ list_any (λ j. j == field) before → answer_shown result ≡ form_fault (form_shown form) before field (model.len bytes.now) }
+    ensures { (before : List ℕ) → again ≡ list_any (λ j. j == field) before → fault_of result ≡ form_fault form before field (model.len bytes.now) }
 {
     match form {
         Form::Number => Err(MessageFault::Form { field }),

@@ -1,31 +1,14 @@
 //! The fields of a message, one after another: Protocol Buffers, "Encoding", message structure.
 
 ghost use Rattle.std.specs.Prelude.{◌≡◌, ◌≢◌, ◌↔◌, ◌<◌, ◌≤◌, ℕ, List, [], length, IfOk, IfSome, OnErr};
-ghost use Rattle.mf_base.specs.Steps.{told_as};
 ghost use Rattle.osm_model.specs.Wire as wire;
 ghost use Rattle.osm_model.specs.Wire.{number_front, bytes_front, value_front, field_front, fields, len};
-ghost use Rattle.pbf_wire.specs.Shown.{ShowsValue, ShowsField, Gives, BeginsWith, GivesNext, fault_shown};
+ghost use Rattle.pbf_wire.specs.Shown.{ShowsValue, ShowsField, Gives, BeginsWith, GivesNext};
 
 use crate::varint::first_varint;
+pub use osm_model::faults::WireFault;
+use osm_model::limits::FIELD_NUMBER_LIMIT;
 use std::marker::Model;
-use thiserror::Error;
-
-/// Why the bytes left begin with no field: the first cause.
-#[derive(Clone, Copy, Debug, PartialEq, Eq, Error)]
-pub enum WireFault {
-    /// A varint is cut by the end, or is no number below 2^64 in ten bytes.
-    #[error("a varint is cut short or too long")]
-    Varint,
-    /// The field number is 0 or above 2^29 - 1, or the wire type is 3, 4, 6 or 7.
-    #[error("a field number or wire type that does not exist")]
-    Kind,
-    /// The bytes end within a value.
-    #[error("a value is cut short")]
-    Length,
-}
-
-// Field numbers are in 1 to 2^29 - 1.
-const FIELD_NUMBER_LIMIT: u64 = 536870912;
 
 /// The value of a field.
 #[derive(Clone, Copy, Debug, PartialEq, Eq)]
@@ -71,7 +54,7 @@ impl<'a> Fields<'a> {
     pub fn next(&mut self) -> Result<Option<Field<'a>>, WireFault>
         ensures found { IfOk result (λ next. IfSome next (λ field. BeginsWith self.old field self.new)) }
         ensures end { (result ≡ Ok None) ↔ (self.old ≡ []) }
-        ensures fault { (fault : WireFault) → (result ≡ Err fault) ↔ ((self.old ≢ []) × (field_front self.old ≡ Err (fault_shown fault))) }
+        ensures fault { (fault : WireFault) → (result ≡ Err fault) ↔ ((self.old ≢ []) × (field_front self.old ≡ Err fault)) }
 
         // The same over the fields that are left.
         ensures reads { GivesNext (fields self.old) result (fields self.new) }
@@ -116,7 +99,7 @@ fn first_field(bytes: &[u8]) -> Result<(Field<'_>, usize), WireFault>
 
 // The varint that the bytes begin with, and how many bytes it takes.
 fn first_number(bytes: &[u8]) -> Result<(u64, usize), WireFault>
-    ensures front { told_as fault_shown result ≡ number_front bytes.now }
+    ensures front { result ≡ number_front bytes.now }
     ensures within { IfOk result (λ found. (0 < found.1) × (found.1 ≤ length bytes.now)) }
 {
     match first_varint(bytes) {
@@ -126,11 +109,11 @@ fn first_number(bytes: &[u8]) -> Result<(u64, usize), WireFault>
 }
 
 // The value of this wire type that the bytes begin with, and how many bytes it takes.
-fn first_value(bytes: &[u8], kind: u64) -> Result<(Value<'_>, usize), WireFault>
-    ensures front { Gives ShowsValue result (value_front kind bytes.now) }
+fn first_value(bytes: &[u8], wire_type: u64) -> Result<(Value<'_>, usize), WireFault>
+    ensures front { Gives ShowsValue result (value_front wire_type bytes.now) }
     ensures within { IfOk result (λ found. found.1 ≤ length bytes.now) }
 {
-    match kind {
+    match wire_type {
         0 => {
             let (number, size) = first_number(bytes)?;
             Ok((Value::Number(number), size))
@@ -147,7 +130,7 @@ fn first_value(bytes: &[u8], kind: u64) -> Result<(Value<'_>, usize), WireFault>
 
 // So many bytes, which nobody reads.
 fn fixed_of(bytes: &[u8], count: usize) -> Result<(Value<'_>, usize), WireFault>
-    ensures front { (kind : List ℕ → wire.Value) → ((fixed : List ℕ) → ShowsValue Value.Fixed (kind fixed)) → Gives ShowsValue result (bytes_front kind count 0 bytes.now) }
+    ensures front { (tell : List ℕ → wire.Value) → ((fixed : List ℕ) → ShowsValue Value.Fixed (tell fixed)) → Gives ShowsValue result (bytes_front tell count 0 bytes.now) }
     ensures within { IfOk result (λ found. found.1 ≤ length bytes.now) }
 {
     if bytes.len() < count {

@@ -1,5 +1,4 @@
 use Rattle.std.proofs.Common.{◌≡◌, ◌∷◌, ◌++◌, [], ℕ, List, sym, subst, rules, Err}
-use Rattle.pbf_frame.specs.BlobSteps.{fault_shown}
 use Rattle.pbf_frame.specs.FrameReading.{BeginsNoBlob}
 use Rattle.pbf_frame.specs.BlobReading.{Tells, HasLength, SpellsStep}
 use Rattle.pbf_frame.proofs.BlobFront.{IsHeaded, headed, head-fails, blob-fails, blob-spells}
@@ -17,8 +16,8 @@ returns-in_err-head-clause-tells g c =
     let first = rw c.in-Some.is at (c.in_ok-first.ensures {u = tt}).tells in
     let four = Took-then _ _ _ _ _ _ _ _ (HasLength at c.in_ok-size.size) first (c.in_ok-size.ensures {u = tt}).tells (λ x y e h. length_joined at c.in_ok-size.size c.in-Some.first x y e h) in
     let e : c.from_residual-in_err-head.result ≡ Err c.in_err-head.field-0.0 = search rules in
-    subst (λ n. Tells (SpellsStep n c.read_head.new.block.bytes left) (λ fault bytes. BeginsNoBlob n (fault_shown fault) left bytes) n (g.S.Source.state c.args.src.now.source.now).left c.args.src.now.offset c.from_residual-in_err-head.result left c.read_head.new.src.offset) c.offset-at.ensures
-    (fails-then (SpellsStep at c.read_head.new.block.bytes left) _ (λ fault bytes. BeginsNoBlob at (fault_shown fault) left bytes) _ at _ _ _ _ _ _ _ _ e four (c.in_err-head.ensures {u = tt}).tells (λ f x y h fails. head-fails at c.in_ok-size.size left f x y h fails))
+    subst (λ n. Tells (SpellsStep n c.read_head.new.block.bytes left) (λ fault bytes. BeginsNoBlob n fault left bytes) n (g.S.Source.state c.args.src.now.source.now).left c.args.src.now.offset c.from_residual-in_err-head.result left c.read_head.new.src.offset) c.offset-at.ensures
+    (fails-then (SpellsStep at c.read_head.new.block.bytes left) _ (λ fault bytes. BeginsNoBlob at fault left bytes) _ at _ _ _ _ _ _ _ _ e four (c.in_err-head.ensures {u = tt}).tells (λ f x y h fails. head-fails at c.in_ok-size.size left f x y h fails))
 
 pub returns-clause-tells : goal.returns-clause-tells
 returns-clause-tells g c =
@@ -28,6 +27,6 @@ returns-clause-tells g c =
     let first = rw c.in-Some.is at (c.in_ok-first.ensures {u = tt}).tells in
     let four = Took-then _ _ _ _ _ _ _ _ (HasLength at c.in_ok-size.size) first (c.in_ok-size.ensures {u = tt}).tells (λ x y e h. length_joined at c.in_ok-size.size c.in-Some.first x y e h) in
     let head = Took-then _ _ _ _ _ _ _ _ (IsHeaded at c.in_ok-head.head) four (c.in_ok-head.ensures {u = tt}).tells (λ x y h held. headed at c.in_ok-size.size c.in_ok-head.head x y h held) in
-    subst (λ n. Tells (SpellsStep n block left) (λ fault bytes. BeginsNoBlob n (fault_shown fault) left bytes) n (g.S.Source.state c.args.src.now.source.now).left c.args.src.now.offset c.read_body.result left c.read_body.new.src.offset) c.offset-at.ensures
-    (tells-then _ (SpellsStep at block left) _ (λ fault bytes. BeginsNoBlob at (fault_shown fault) left bytes) _ at _ _ _ _ _ _ c.read_body.result head c.read_body.ensures.tells
+    subst (λ n. Tells (SpellsStep n block left) (λ fault bytes. BeginsNoBlob n fault left bytes) n (g.S.Source.state c.args.src.now.source.now).left c.args.src.now.offset c.read_body.result left c.read_body.new.src.offset) c.offset-at.ensures
+    (tells-then _ (SpellsStep at block left) _ (λ fault bytes. BeginsNoBlob at fault left bytes) _ at _ _ _ _ _ _ c.read_body.result head c.read_body.ensures.tells
     (λ step x y h held. blob-spells at c.in_ok-head.head block left step x y h held) (λ f x y h fails. blob-fails at c.in_ok-head.head left f x y h fails))

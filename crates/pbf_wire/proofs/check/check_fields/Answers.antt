@@ -1,5 +1,6 @@
 use Rattle.std.proofs.Common.{◌≡◌, ◌∙◌, ◌∷◌, sym, ap, subst, rules, Err}
-use Rattle.pbf_wire.specs.Check.{answer_shown, Notes}
+use Rattle.mf_base.specs.Steps.{fault_of}
+use Rattle.pbf_wire.specs.Check.{Notes}
 use Rattle.pbf_wire.proofs.CheckReads.{CheckedSoFar, checked-none, checked-all, checked-fault, checked-more, checked-no}
 use Rattle.pbf_wire.proofs.check.check_fields.Goals as goal
 
@@ -18,7 +19,7 @@ returns-in_err-check_field-in-Ok-Some c =
     let (f, shows, read) = rw c.in-Ok-Some.field-0-is at c.in-Ok-Some.ensures.reads in
     let so = c.loop-field.invariant in
     let e : c.from_residual.result ≡ Err c.in_err-check_field-in-Ok-Some.field-0.0 = search rules in
-    ap answer_shown e ∙ checked-no _ _ _ _ _ f _ so read ((c.in_err-check_field-in-Ok-Some.ensures {u = tt}).exact so.before f shows so.noted)
+    ap fault_of e ∙ checked-no _ _ _ _ _ f _ so read ((c.in_err-check_field-in-Ok-Some.ensures {u = tt}).exact so.before f shows so.noted)
 
 pub returns-in-Ok-None : goal.returns-in-Ok-None
 returns-in-Ok-None c =
