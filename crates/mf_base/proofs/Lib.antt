@@ -3,6 +3,7 @@ pub mod VarintRead
 pub mod Written
 pub mod StepLaws
 pub mod OneSpelling
+pub mod Opened
 pub mod Runs
 pub mod NumberLemmas
 pub mod Compute

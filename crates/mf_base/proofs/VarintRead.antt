@@ -156,6 +156,26 @@ answer-short bytes run scale value r all =
     let le = high_run-le bytes in
     rw (le-ltb (high_run bytes) (length bytes) (omega (arith, all, r.high)), lt-leb 10 (length bytes) (omega (arith, all, r.few))) refl
 
+-- no byte, a varint of one byte, and one of two
+pub front-none : (bytes : List ℕ) → length bytes ≡ 0 → Err Short ≡ varint_front bytes
+front-none bytes none = answer-short bytes 0 1 0 (read-none bytes) (omega (arith, none))
+
+pub front-one : (bytes : List ℕ) (byte : ℕ) → 0 < length bytes → byte ≡ get_or bytes 0 0 → byte < 128 → Ok (byte, 1) ≡ varint_front bytes
+front-one bytes byte some is low = ap (λ (n : ℕ). Ok (n, 1)) (omega arith) ∙ answer-within bytes 0 1 0 byte (read-none bytes) some (omega arith) is low
+
+pub front-two : (bytes : List ℕ) (part byte : ℕ) → 1 < length bytes → part ≡ get_or bytes 0 0 % 128 → 128 ≤ get_or bytes 0 0 → get_or bytes 0 0 < 256 → byte ≡ get_or bytes 1 0 → byte < 128
+    → Ok (part + 128 * byte, 2) ≡ varint_front bytes
+front-two bytes part byte two first high small is low =
+    let some : 0 < length bytes = omega (arith, two) in
+    let read : ReadSoFar bytes 1 128 part = record {
+      few = omega arith;
+      high = high_run-more bytes 0 (omega arith) some high;
+      within = omega (arith, two);
+      weight = omega arith;
+      number = omega (arith, sevens-more bytes 0 some, first);
+    } in
+    answer-within bytes 1 128 part byte read two (omega arith) is low
+
 -- ---- sums and products fit in 64 bits
 
 pub weighed-tenth : (bytes : List ℕ) (run scale value byte : ℕ) → ReadSoFar bytes run scale value → run ≡ 9 → byte < 2 → value + scale * byte < 2 ^ 64

@@ -1,34 +1,42 @@
 -- The steps of the writers of numbers.
-use Rattle.std.proofs.Common.{◌≡◌, ℕ, zero, suc, ◌+◌, ◌/◌, ◌%◌, ◌<◌, ◌≤◌, List, [], ◌∷◌, ◌++◌, length, take, refl, inl, inr, arith, append_assoc, length-append, ap}
+use Rattle.std.proofs.Common.{◌≡◌, ◌∙◌, ℕ, zero, suc, ◌+◌, ◌/◌, ◌%◌, ◌<◌, ◌≤◌, List, [], ◌∷◌, ◌++◌, length, take, set, refl, inl, inr, arith, append_assoc, length-append, ap}
 use Rattle.std.proofs.lemmas.Bool.{cases_lt}
-use Rattle.std.proofs.lemmas.List.{take_at}
+use Rattle.std.proofs.lemmas.List.{take_at, take_more_set, length-take, length-set}
 use Rattle.byteorder.specs.Endian.{big_bytes}
 use Rattle.byteorder.specs.Numbers.{length-bytes_high_first}
 use Rattle.mf_base.specs.Spelling.{vbe}
-use Rattle.mf_base.specs.Buffer.{Buffer, HasRoom, AppendsTo}
+use Rattle.mf_base.specs.Buffer.{Buffer, AppendsTo}
 use Rattle.mf_base.proofs.OneSpelling.{vbe-small, vbe-more, length-vbe_unsigned-63, length-vbe_signed-63, length-vbe-positive}
 
 -- one more byte of a spelling
 pub spelled-more : (bytes : List ℕ) (last sign m : ℕ) → 0 < last → last ≤ m → (bytes ++ (128 + m % 128) ∷ []) ++ vbe last sign (m / 128) ≡ bytes ++ vbe last sign m
 spelled-more bytes last sign m some large = rw (vbe-more last sign m some large, append_assoc) refl
 
--- What is still to be put of a spelling completes what was put since the first.
-unfoldable pub Completes : Buffer → Buffer → ℕ → ℕ → ℕ → ℕ → Type 0
-Completes now first last sign rest m = (now.bytes ++ vbe last sign rest ≡ first.bytes ++ vbe last sign m) × (now.capacity ≡ first.capacity)
+-- What is still to be spelled behind so many bytes completes a spelling.
+pub record Completes (bytes : List ℕ) (at last sign rest m : ℕ) : Type 0 where
+  pub within : at ≤ length bytes
+  pub spelled : take at bytes ++ vbe last sign rest ≡ vbe last sign m
 
--- it has room
-pub room-left : (now first : Buffer) (last sign rest m : ℕ) → 0 < last → Completes now first last sign rest m → length (vbe last sign m) ≤ 10 → HasRoom first 10 → HasRoom now 1
-unfolding Completes
-room-left now first last sign rest m some h short room =
-    omega (arith, simp length-append at (ap length h.0), short, length-vbe-positive last sign rest some, h.1, room)
+pub completes-none : (bytes : List ℕ) (last sign m : ℕ) → Completes bytes 0 last sign m m
+completes-none bytes last sign m = record { within = omega arith; spelled = refl }
 
-pub put-more : (now next first : Buffer) (last sign rest m : ℕ) → 0 < last → last ≤ rest → Completes now first last sign rest m → AppendsTo now next ((128 + rest % 128) ∷ []) → Completes next first last sign (rest / 128) m
-unfolding Completes
-put-more now next first last sign rest m some large h put = rw put (rw (spelled-more now.bytes last sign rest some large) h.0, h.1)
+-- there is a place for a byte of it
+pub place-left : (bytes : List ℕ) (at last sign rest m most : ℕ) → 0 < last → Completes bytes at last sign rest m → length (vbe last sign m) ≤ most → at + 1 ≤ most
+place-left bytes at last sign rest m most some h short =
+    omega (arith, simp length-append at (ap length h.spelled), length-take at bytes, h.within, short, length-vbe-positive last sign rest some)
 
-pub put-last : (now next first : Buffer) (last sign rest m : ℕ) → rest < last → Completes now first last sign rest m → AppendsTo now next ((rest + sign) ∷ []) → AppendsTo first next (vbe last sign m)
-unfolding Completes
-put-last now next first last sign rest m small h put = rw (put, ← vbe-small last sign rest small, h.0, h.1) refl
+pub completes-more : (bytes : List ℕ) (at last sign rest m : ℕ) → 0 < last → last ≤ rest → at < length bytes → Completes bytes at last sign rest m → Completes (set bytes at (128 + rest % 128)) (at + 1) last sign (rest / 128) m
+completes-more bytes at last sign rest m some large within h = record {
+  within = omega (arith, within, length-set bytes at (128 + rest % 128));
+  spelled = rw (take_more_set bytes at (128 + rest % 128) within) (spelled-more (take at bytes) last sign rest some large ∙ h.spelled);
+}
+
+pub completes-last : (bytes : List ℕ) (at last sign rest m : ℕ) → rest < last → at < length bytes → Completes bytes at last sign rest m → take (at + 1) (set bytes at (rest + sign)) ≡ vbe last sign m
+completes-last bytes at last sign rest m small within h = take_more_set bytes at (rest + sign) within ∙ rw (← vbe-small last sign rest small) h.spelled
+
+pub completes-size : (bytes : List ℕ) (at last sign rest m : ℕ) → rest < last → Completes bytes at last sign rest m → at + 1 ≡ length (vbe last sign m)
+completes-size bytes at last sign rest m small h =
+    let one = ap length (vbe-small last sign rest small) in omega (arith, simp length-append at (ap length h.spelled), length-take at bytes, h.within, one)
 
 -- at most so many bytes were put
 pub puts-most : (first next : Buffer) (bytes : List ℕ) (n : ℕ) → AppendsTo first next bytes → length bytes ≤ n → length next.bytes ≤ length first.bytes + n

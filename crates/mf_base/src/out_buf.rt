@@ -1,27 +1,30 @@
 //! Bytes that are written into a fixed room.
 
-ghost use Rattle.std.specs.Prelude.{◌≡◌, ◌+◌, ◌≤◌, ◌<◌, ◌^◌, [], length, IfOk};
+ghost use Rattle.std.specs.Prelude.{◌≡◌, ◌+◌, ◌-◌, ◌≤◌, ◌<◌, ◌^◌, ◌++◌, [], length, replicate, vec_capacity, IfOk};
 ghost use Rattle.mf_base.specs.Buffer.{HasRoom, AppendsTo};
 
 use std::alloc::{AllocError, Global};
 use std::marker::Model;
 
 /// Bytes with a fixed capacity, to whose end others are put.
+///
+/// All its memory is taken when it is made, and touched only as far as it was used.
 #[derive(Drop)]
 pub struct OutBuf {
-    written: Vec<u8>,
-    limit: usize,
+    // What stands behind the bytes that were put is left from before.
+    opened: Vec<u8>,
+    len: usize,
 }
 
 impl Model for OutBuf {
-    ghost use Rattle.std.specs.Prelude.{◌≤◌, vec_len, vec_capacity};
+    ghost use Rattle.std.specs.Prelude.{◌≤◌, take, vec_len, vec_capacity};
     ghost use Rattle.mf_base.specs.Buffer.{Buffer};
 
     ghost Value = { Buffer };
 
-    ghost view = { λ b. record { bytes = b.written.items; capacity = b.limit } };
+    ghost view = { λ b. record { bytes = take b.len b.opened.items; capacity = vec_capacity b.opened } };
 
-    ghost invariant = { λ b. (vec_len b.written ≤ b.limit) × (b.limit ≤ vec_capacity b.written) };
+    ghost invariant = { λ b. b.len ≤ vec_len b.opened };
 }
 
 impl OutBuf {
@@ -30,8 +33,8 @@ impl OutBuf {
         ensures { IfOk result (λ b. b ≡ record { bytes = []; capacity = cap }) }
     {
         Ok(OutBuf {
-            written: Vec::with_capacity(alloc, cap)?,
-            limit: cap,
+            opened: Vec::with_capacity(alloc, cap)?,
+            len: 0,
         })
     }
 
@@ -40,7 +43,7 @@ impl OutBuf {
         ensures left { result + length self.now.bytes ≡ self.now.capacity }
         ensures bounded { self.now.capacity < 2 ^ 63 }
     {
-        self.limit - self.written.len()
+        self.opened.capacity() - self.len
     }
 
     /// The bytes that were put.
@@ -48,14 +51,14 @@ impl OutBuf {
         ensures bytes { result.now ≡ self.now.bytes }
         ensures fits { length result.now ≤ self.now.capacity }
     {
-        &self.written
+        &self.opened[..self.len]
     }
 
     /// Forgets the bytes that were put.
     pub fn clear(&mut self)
         ensures { self.new ≡ record { bytes = []; capacity = self.old.capacity } }
     {
-        self.written.clear();
+        self.len = 0;
     }
 
     /// Puts bytes to the end. There must be room for them.
@@ -63,7 +66,22 @@ impl OutBuf {
         requires { HasRoom self.old (length bytes.now) }
         ensures { AppendsTo self.old self.new bytes.now }
     {
-        self.written.extend_from_slice(bytes).unwrap();
+        let end = self.len + bytes.len();
+        open(&mut self.opened, end);
+        self.opened[self.len..end].copy_from_slice(bytes);
+        self.len = end;
+    }
+}
+
+#[tactic(auto, using(crate::proofs::Opened::opening))]
+/// Lengthens bytes to `n` by zeros, where they are fewer, within the memory that was taken for them.
+pub fn open(bytes: &mut Vec<u8>, n: usize)
+    requires { n ≤ vec_capacity bytes.old }
+    ensures items { bytes.new.items ≡ bytes.old.items ++ replicate (n - length bytes.old.items) 0 }
+    ensures capacity { vec_capacity bytes.new ≡ vec_capacity bytes.old }
+{
+    while bytes.len() < n {
+        bytes.push_reserved(0);
     }
 }
 

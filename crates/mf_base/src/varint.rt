@@ -22,9 +22,28 @@ pub fn get_varint(bytes: &[u8], at: usize) -> Result<(u64, usize), VarintFault>
     Ok((value, at + size))
 }
 
-// The varint at the front and how many bytes it takes.
-fn first_varint(bytes: &[u8]) -> Result<(u64, usize), VarintFault>
-    ensures { result ≡ varint_front bytes.now }
+/// The varint that the bytes begin with, and how many bytes it takes.
+pub fn first_varint(bytes: &[u8]) -> Result<(u64, usize), VarintFault>
+    ensures exact { result ≡ varint_front bytes.now }
+    ensures within { IfOk result (λ found. (0 < found.1) × (found.1 ≤ length bytes.now)) }
+{
+    if bytes.is_empty() {
+        return Err(VarintFault::Short);
+    }
+    // Most numbers take one byte or two.
+    if bytes[0] < 128 {
+        return Ok((u64::from(bytes[0]), 1));
+    }
+    if bytes.len() > 1 && bytes[1] < 128 {
+        return Ok((u64::from(bytes[0] % 128) + 128 * u64::from(bytes[1]), 2));
+    }
+    long_varint(bytes)
+}
+
+// The same, byte by byte.
+fn long_varint(bytes: &[u8]) -> Result<(u64, usize), VarintFault>
+    ensures exact { result ≡ varint_front bytes.now }
+    ensures within { IfOk result (λ found. (0 < found.1) × (found.1 ≤ length bytes.now)) }
 {
     let mut value: u64 = 0;
     let mut scale: u64 = 1;
@@ -108,6 +127,9 @@ mod tests {
         for (bytes, at, fault) in FAULTS {
             assert_eq!(rt; get_varint(bytes, at), Err(fault), "in {bytes:?}");
         }
+        assert_eq!(rt; first_varint(b"\x96\x01\x07"), Ok((150, 2)));
+        assert_eq!(rt; first_varint(b"\x80\x80\x01"), Ok((16_384, 3)));
+        assert_eq!(rt; first_varint(b"\x96"), Err(VarintFault::Short));
         Ok(())
     }
 }

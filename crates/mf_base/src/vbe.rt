@@ -1,6 +1,6 @@
 //! Numbers in variable byte encoding, written: Mapsforge Specification, Binary Map File Format, version 5.
 
-ghost use Rattle.std.specs.Prelude.{◌≡◌, ℕ, ◌+◌, ◌≤◌, ◌<◌, ◌^◌, length, nat_abs};
+ghost use Rattle.std.specs.Prelude.{◌≡◌, ℕ, ◌+◌, ◌≤◌, ◌<◌, ◌^◌, length, take, nat_abs};
 ghost use Rattle.mf_base.specs.Buffer.{HasRoom, AppendsTo};
 ghost use Rattle.mf_base.specs.Spelling.{vbe, vbe_unsigned, vbe_signed};
 
@@ -48,7 +48,7 @@ pub fn size_vbe_s(v: i64) -> u32
     size_groups(64, v.unsigned_abs())
 }
 
-// Puts seven bits a byte while the rest is not below `last`, then the rest with the sign's bit.
+// Puts the spelling of a magnitude under a sign's bit.
 fn put_groups(out: &mut OutBuf, last: u8, sign: u8, magnitude: u64)
     requires some { 0 < last }
     requires byte { last + sign ≤ 128 }
@@ -57,15 +57,32 @@ fn put_groups(out: &mut OutBuf, last: u8, sign: u8, magnitude: u64)
     ensures appends { AppendsTo out.old out.new (vbe last sign magnitude) }
     ensures most { length out.new.bytes ≤ length out.old.bytes + 10 }
 {
-    let mut rest = magnitude;
-    while rest >= u64::from(last) {
-        out.put(&[128 + (rest % 128) as u8]);
-        rest /= 128;
-    }
-    out.put(&[rest as u8 + sign]);
+    let mut bytes = [0; 10];
+    let size = spell_groups(&mut bytes, last, sign, magnitude);
+    out.put(&bytes[..size]);
 }
 
-// How many bytes `put_groups` puts, whatever the sign.
+// Spells at the front of bytes, and answers how many it takes: seven bits a byte while the rest is not below `last`, then
+// the rest with the sign's bit.
+fn spell_groups(bytes: &mut [u8; 10], last: u8, sign: u8, magnitude: u64) -> usize
+    requires some { 0 < last }
+    requires byte { last + sign ≤ 128 }
+    requires short { length (vbe last sign magnitude) ≤ 10 }
+    ensures size { result ≡ length (vbe last sign magnitude) }
+    ensures spelled { take result bytes.new ≡ vbe last sign magnitude }
+{
+    let mut rest = magnitude;
+    let mut at = 0;
+    while rest >= u64::from(last) {
+        bytes[at] = 128 + (rest % 128) as u8;
+        rest /= 128;
+        at += 1;
+    }
+    bytes[at] = rest as u8 + sign;
+    at + 1
+}
+
+// How many bytes `spell_groups` takes, whatever the sign.
 fn size_groups(last: u8, magnitude: u64) -> u32
     requires some { 0 < last }
     requires short { length (vbe last 0 magnitude) ≤ 10 }

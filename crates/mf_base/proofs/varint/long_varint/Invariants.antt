@@ -1,6 +1,6 @@
 use Rattle.std.proofs.Common.{◌-◌, length}
 use Rattle.mf_base.proofs.VarintRead.{ReadSoFar}
-use Rattle.mf_base.proofs.varint.first_varint.Given as goal
+use Rattle.mf_base.proofs.varint.long_varint.Given as goal
 
 -- the bytes before have the top bit, and their number is known
 abbrev pub invariant-loop-run : goal.invariant-loop-run
