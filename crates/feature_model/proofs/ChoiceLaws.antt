@@ -1,10 +1,10 @@
 -- What tags choose is proper.
 use Rattle.std.proofs.Common.{◌≡◌, ◌⊎◌, ℕ, zero, suc, ◌+◌, ◌<◌, ◌≤◌, min, List, [], ◌∷◌, map, length, take, Bool, true, false, ◌&&◌, Option, Some, None, ℤ, pos, negsuc, refl, sym, ap, subst, inl, inr, arith}
-use Rattle.std.specs.Prelude.{filter_map, fold, nat_le, option_map, option_and_then, unwrap_or, codes, if◌then◌else◌, IfSome, slice_get, IsTrue}
+use Rattle.std.specs.Prelude.{◌==◌, filter_map, fold, nat_le, option_map, option_and_then, unwrap_or, codes, if◌then◌else◌, IfSome, slice_get, IsTrue}
 use Rattle.std.specs.Int.{int_min, int_max}
 use Rattle.std.specs.List.{AllByRecursion, enumerate_from, cons_option}
-use Rattle.std.proofs.Math.Nat.{min-le_left}
-use Rattle.std.proofs.lemmas.Bool.{cases_Bool, cases_lt, le-leb, lt-ltb, le-ltb, leb-true, and_parts}
+use Rattle.std.proofs.Math.Bool.{or-true}
+use Rattle.std.proofs.lemmas.Bool.{cases_Bool, cases_lt, le-leb, lt-ltb, le-ltb, leb-true, eq-eqb, and_parts}
 use Rattle.std.proofs.lemmas.List.{length-take}
 use Rattle.std.proofs.lemmas.Option.{same_Some, slice_get_within}
 use Rattle.mf_base.specs.Texts.{Text}
@@ -13,7 +13,7 @@ use Rattle.mf_base.specs.Numbers.{whole_number}
 use Rattle.mf_base.specs.Ranges.{within, lies_within}
 use Rattle.feature_model.specs.Mapping.{IsOfKind, Entry, ValueKind, KeptValue, value_kind, read_by, kept_by}
 use Rattle.feature_model.specs.Choice.{Kept, Match, match_of, matches, layer_of, Choice, choice_of, choice}
-use Rattle.feature_model.specs.Proper.{IsPresent, IsKept, AreRising, IsLayer}
+use Rattle.feature_model.specs.Proper.{IsPresent, IsKept, AreRising, has_zoom, IsLayer}
 use Rattle.feature_model.proofs.ListLemmas.{all-filter_map, any-all, all-map, all-take, all-weaker, all-numbered}
 
 -- Texts.
@@ -165,9 +165,30 @@ layer_of-is : (tags : Tags) → IsLayer (layer_of tags)
 unfolding layer_of
 layer_of-is tags = clamp-is (unwrap_or (option_and_then whole_number (value_of (codes "layer") tags)) (pos 0))
 
-fold-below : (z : ℕ) (more : List Match) → fold (λ least (m : Match). min least m.entry.zoom) z more ≤ z
-fold-below z [] = omega arith
-fold-below z (m ∷ more) = let a = fold-below (min z m.entry.zoom) more in let b = min-le_left z m.entry.zoom in omega (arith, a, b)
+min-of-both : (P : ℕ → Type 0) (a b : ℕ) → P a → P b → P (min a b)
+min-of-both P a b pa pb = elim (cases_lt a b) as (λ c. P (min a b)) [
+  | inl low ↦ subst P (sym (min-left low)) pa
+  | inr high ↦ subst P (sym (min-right high)) pb
+]
+  where
+    min-left : a < b → min a b ≡ a
+    min-left low = omega arith
+
+    min-right : b ≤ a → min a b ≡ b
+    min-right high = omega arith
+
+-- what holds of all zoom levels holds of their least
+fold-of-all : (P : ℕ → Type 0) (z : ℕ) (more : List Match) → P z → AllByRecursion (λ (m : Match). P m.entry.zoom) more → P (fold (λ least (m : Match). min least m.entry.zoom) z more)
+fold-of-all P z [] here all = here
+fold-of-all P z (m ∷ more) here all = fold-of-all P (min z m.entry.zoom) more (min-of-both P z m.entry.zoom here all.0) all.1
+
+-- each entry has the zoom level of one of them
+all-have-zooms : (entries : List Entry) → AllByRecursion (λ (e : Entry). has_zoom entries e.zoom ≡ true) entries
+all-have-zooms [] = tt
+all-have-zooms (e ∷ entries) = (
+  rw (eq-eqb e.zoom e.zoom refl) refl,
+  all-weaker (λ (later : Entry). has_zoom entries later.zoom ≡ true) (λ (later : Entry). has_zoom (e ∷ entries) later.zoom ≡ true) entries (λ later h. rw h (or-true (e.zoom == later.zoom))) (all-have-zooms entries),
+)
 
 -- Choices.
 
@@ -177,7 +198,7 @@ pub record IsChoice (entries : List Entry) (c : Choice) : Type 0 where
   pub few : length c.tags ≤ 15
   pub kept : AllByRecursion (IsKept entries) c.tags
   pub rising : AreRising c.tags
-  pub zoom : (level : ℕ) → AllByRecursion (λ (e : Entry). e.zoom ≤ level) entries → c.zoom ≤ level
+  pub zoom : has_zoom entries c.zoom ≡ true
   pub layer : IsLayer c.layer
 
 choice_of-is : (entries : List Entry) (layer : ℤ) (found : List Match) (c : Choice) → IsLayer layer
@@ -185,13 +206,15 @@ choice_of-is : (entries : List Entry) (layer : ℤ) (found : List Match) (c : Ch
 choice_of-is entries layer [] c fine good rising e = absurd (cc e)
 choice_of-is entries layer (first ∷ more) c fine good rising e =
     let tags : List Kept = map (λ (m : Match). m.kept) (first ∷ more) in
+    let HasItsZoom : Entry → Type 0 = λ e. has_zoom entries e.zoom ≡ true in
+    let found : AllByRecursion (IsGood HasItsZoom entries) (first ∷ more) = good HasItsZoom (all-have-zooms entries) in
     let all = all-weaker (λ (m : Match). IsKept entries m.kept × Unit {0}) (λ (m : Match). IsKept entries m.kept) (first ∷ more) (λ m h. h.0) (good (λ e. Unit {0}) (any-all entries)) in
     subst (IsChoice entries) (same_Some _ c e) record {
       some = omega arith;
       few = omega (arith, length-take 15 tags);
       kept = all-take (IsKept entries) 15 tags (all-map (IsKept entries) (λ (m : Match). m.kept) (first ∷ more) all);
       rising = take-rising 15 tags rising;
-      zoom = λ level all. let a = fold-below first.entry.zoom more in let b = (good (λ (e : Entry). e.zoom ≤ level) all).0.1 in omega (arith, a, b);
+      zoom = fold-of-all (λ z. has_zoom entries z ≡ true) first.entry.zoom more found.0.1 (all-weaker (IsGood HasItsZoom entries) (λ (m : Match). has_zoom entries m.entry.zoom ≡ true) more (λ m h. h.1) found.1);
       layer = fine;
     }
 

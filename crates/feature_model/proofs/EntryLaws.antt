@@ -11,9 +11,10 @@ use Rattle.mf_base.specs.Texts.{Text, has_byte}
 use Rattle.mf_base.specs.Steps.{◌>>=◌, require}
 use Rattle.mf_base.proofs.StepLaws.{bind_ok, require_ok, ok_or_ok, ok_is}
 use Rattle.mf_base.specs.declared.kind.List as which
+use Rattle.feature_model.specs.declared.fault.MappingFault.{MappingFault}
 use Rattle.feature_model.specs.Mapping.{Entry, Mapping}
 use Rattle.feature_model.specs.Descriptions.{entries_for}
-use Rattle.feature_model.specs.Entries.{entry, kind, twice, too_many, keeps_entry_rule, keeps_kind_rule, is_short, may_have_marks, is_same_tag, is_there, entry_behind, entries_behind, entries_limit, mapping_told, IsEntry, AreEntries, IsMapping}
+use Rattle.feature_model.specs.Entries.{keeps_entry_rule, keeps_kind_rule, is_short, may_have_marks, is_same_tag, is_there, entry_behind, entries_behind, entries_limit, mapping_told, IsTold, IsEntry, AreEntries, IsMapping}
 
 -- no entry of a list has the key and value of one that stands before all of them
 abbrev pub AreNew : List Entry → List Entry → Type 0
@@ -39,17 +40,17 @@ nothing-distinct = tt
 
 -- ---- one entry
 
-entry_behind-ok : (list : which.List) (before : List Entry) (told : Option Entry) (e : Entry) → entry_behind list before told ≡ Ok e → (told ≡ Some e) × IsEntry list e × (is_there before e ≡ false)
+entry_behind-ok : (list : which.List) (before : List Entry) (told : Option Entry) (e : Entry) → IsTold told → entry_behind list before told ≡ Ok e → (told ≡ Some e) × IsEntry list e × (is_there before e ≡ false)
 unfolding entry_behind
-entry_behind-ok list before told e h =
+entry_behind-ok list before told e utf h =
     let index : ℕ = length before in
-    let (f, is_told, h1) = bind_ok (ok_or told (entry list index)) (λ e. require (keeps_entry_rule list e) (entry list index) >>= (λ u. require (keeps_kind_rule e) (kind list index) >>= (λ u. require (not (is_there before e)) (twice list index) >>= (λ u. Ok e)))) e h in
-    let (u, rule, h2) = bind_ok (require (keeps_entry_rule list f) (entry list index)) (λ u. require (keeps_kind_rule f) (kind list index) >>= (λ u. require (not (is_there before f)) (twice list index) >>= (λ u. Ok f))) e h1 in
-    let (v, kinds, h3) = bind_ok (require (keeps_kind_rule f) (kind list index)) (λ u. require (not (is_there before f)) (twice list index) >>= (λ u. Ok f)) e h2 in
-    let (w, new, h4) = bind_ok (require (not (is_there before f)) (twice list index)) (λ u. Ok f) e h3 in
+    let (f, is_told, h1) = bind_ok (ok_or told (MappingFault.Entry list index)) (λ e. require (keeps_entry_rule list e) (MappingFault.Entry list index) >>= (λ u. require (keeps_kind_rule e) (MappingFault.Kind list index) >>= (λ u. require (not (is_there before e)) (MappingFault.Twice list index) >>= (λ u. Ok e)))) e h in
+    let (u, rule, h2) = bind_ok (require (keeps_entry_rule list f) (MappingFault.Entry list index)) (λ u. require (keeps_kind_rule f) (MappingFault.Kind list index) >>= (λ u. require (not (is_there before f)) (MappingFault.Twice list index) >>= (λ u. Ok f))) e h1 in
+    let (v, kinds, h3) = bind_ok (require (keeps_kind_rule f) (MappingFault.Kind list index)) (λ u. require (not (is_there before f)) (MappingFault.Twice list index) >>= (λ u. Ok f)) e h2 in
+    let (w, new, h4) = bind_ok (require (not (is_there before f)) (MappingFault.Twice list index)) (λ u. Ok f) e h3 in
     let same : f ≡ e = ok_is f e h4 in
     subst (λ (e : Entry). (told ≡ Some e) × IsEntry list e × (is_there before e ≡ false)) same
-    (ok_or_ok told (entry list index) f is_told, record { entry_rule = require_ok (keeps_entry_rule list f) (entry list index) u rule; kind_rule = require_ok (keeps_kind_rule f) (kind list index) v kinds }, not-true (is_there before f) (require_ok (not (is_there before f)) (twice list index) w new))
+    (ok_or_ok told (MappingFault.Entry list index) f is_told, record { entry_rule = require_ok (keeps_entry_rule list f) (MappingFault.Entry list index) u rule; kind_rule = require_ok (keeps_kind_rule f) (MappingFault.Kind list index) v kinds; text = subst IsTold (ok_or_ok told (MappingFault.Entry list index) f is_told) utf }, not-true (is_there before f) (require_ok (not (is_there before f)) (MappingFault.Twice list index) w new))
 
 entry_behind-some : (list : which.List) (before : List Entry) (e : Entry) → IsEntry list e → is_there before e ≡ false → entry_behind list before (Some e) ≡ Ok e
 unfolding entry_behind
@@ -66,13 +67,13 @@ record Accepted (list : which.List) (before : List Entry) (told : List (Option E
   new : AreNew before more
   distinct : IsDistinct is_same_tag more
 
-entries_behind-ok : (list : which.List) (before : List Entry) (told : List (Option Entry)) (entries : List Entry) → entries_behind list before told ≡ Ok entries → Accepted list before told entries
+entries_behind-ok : (list : which.List) (before : List Entry) (told : List (Option Entry)) (entries : List Entry) → AllByRecursion IsTold told → entries_behind list before told ≡ Ok entries → Accepted list before told entries
 unfolding entries_behind
-entries_behind-ok list before [] entries h = record { more = []; told_so = refl; whole = sym (ok_is before entries h) ∙ sym (append-nil before); rules = tt; new = tt; distinct = nothing-distinct }
-entries_behind-ok list before (told ∷ others) entries h =
+entries_behind-ok list before [] entries utf h = record { more = []; told_so = refl; whole = sym (ok_is before entries h) ∙ sym (append-nil before); rules = tt; new = tt; distinct = nothing-distinct }
+entries_behind-ok list before (told ∷ others) entries utf h =
     let (e, first, rest) = bind_ok (entry_behind list before told) (λ e. entries_behind list (before ++ e ∷ []) others) entries h in
-    let here = entry_behind-ok list before told e first in
-    let later = entries_behind-ok list (before ++ e ∷ []) others entries rest in
+    let here = entry_behind-ok list before told e utf.0 first in
+    let later = entries_behind-ok list (before ++ e ∷ []) others entries utf.1 rest in
     let apart = new-behind before e later.more later.new in
     record {
       more = e ∷ later.more;
@@ -107,16 +108,16 @@ are_entries list told entries few accepted =
 
 -- ---- mappings
 
-pub mapping_told-ok : (poi way : List (Option Entry)) (m : Mapping) → mapping_told poi way ≡ Ok m → IsMapping m × (poi ≡ map Some m.poi) × (way ≡ map Some m.way)
+pub mapping_told-ok : (poi way : List (Option Entry)) (m : Mapping) → AllByRecursion IsTold poi → AllByRecursion IsTold way → mapping_told poi way ≡ Ok m → IsMapping m × (poi ≡ map Some m.poi) × (way ≡ map Some m.way)
 unfolding mapping_told
-mapping_told-ok poi way m h =
-    let (u, few_poi, h1) = bind_ok (require (nat_le (length poi) entries_limit) (too_many which.List.Poi)) (λ u. require (nat_le (length way) entries_limit) (too_many which.List.Way) >>= (λ u. entries_behind which.List.Poi [] poi >>= (λ p. entries_behind which.List.Way [] way >>= (λ w. Ok (record { poi = p; way = w }))))) m h in
-    let (v, few_way, h2) = bind_ok (require (nat_le (length way) entries_limit) (too_many which.List.Way)) (λ u. entries_behind which.List.Poi [] poi >>= (λ p. entries_behind which.List.Way [] way >>= (λ w. Ok (record { poi = p; way = w })))) m h1 in
+mapping_told-ok poi way m utf_poi utf_way h =
+    let (u, few_poi, h1) = bind_ok (require (nat_le (length poi) entries_limit) (MappingFault.TooMany which.List.Poi)) (λ u. require (nat_le (length way) entries_limit) (MappingFault.TooMany which.List.Way) >>= (λ u. entries_behind which.List.Poi [] poi >>= (λ p. entries_behind which.List.Way [] way >>= (λ w. Ok (record { poi = p; way = w }))))) m h in
+    let (v, few_way, h2) = bind_ok (require (nat_le (length way) entries_limit) (MappingFault.TooMany which.List.Way)) (λ u. entries_behind which.List.Poi [] poi >>= (λ p. entries_behind which.List.Way [] way >>= (λ w. Ok (record { poi = p; way = w })))) m h1 in
     let (p, ps, h3) = bind_ok (entries_behind which.List.Poi [] poi) (λ p. entries_behind which.List.Way [] way >>= (λ w. Ok (record { poi = p; way = w }))) m h2 in
     let (w, ws, h4) = bind_ok (entries_behind which.List.Way [] way) (λ w. Ok (record { poi = p; way = w })) m h3 in
     let made : Mapping = record { poi = p; way = w } in
-    let a = are_entries which.List.Poi poi p (leb-true (length poi) entries_limit (require_ok (nat_le (length poi) entries_limit) (too_many which.List.Poi) u few_poi)) (entries_behind-ok which.List.Poi [] poi p ps) in
-    let b = are_entries which.List.Way way w (leb-true (length way) entries_limit (require_ok (nat_le (length way) entries_limit) (too_many which.List.Way) v few_way)) (entries_behind-ok which.List.Way [] way w ws) in
+    let a = are_entries which.List.Poi poi p (leb-true (length poi) entries_limit (require_ok (nat_le (length poi) entries_limit) (MappingFault.TooMany which.List.Poi) u few_poi)) (entries_behind-ok which.List.Poi [] poi p utf_poi ps) in
+    let b = are_entries which.List.Way way w (leb-true (length way) entries_limit (require_ok (nat_le (length way) entries_limit) (MappingFault.TooMany which.List.Way) v few_way)) (entries_behind-ok which.List.Way [] way w utf_way ws) in
     subst (λ (m : Mapping). IsMapping m × (poi ≡ map Some m.poi) × (way ≡ map Some m.way)) {x = made} (ok_is made m h4) (record { poi = a.0; way = b.0 }, a.1, b.1)
 
 few-told : (entries : List Entry) → length entries ≤ entries_limit → nat_le (length (map Some entries)) entries_limit ≡ true

@@ -5,7 +5,8 @@ use Rattle.mf_base.specs.declared.kind.Role.{Role}
 use Rattle.mf_base.proofs.StepLaws.{ok_is, err_is_no_ok}
 use Rattle.feature_model.specs.Points.{Point, Part}
 use Rattle.feature_model.specs.Rings.{Piece, Joined, rings}
-use Rattle.feature_model.specs.Blocks.{JoinedBlock, begins_inside, blocks_of, pieces_of, no_outer, open_ring, blocks_joined, relation_blocks, joined_parts, inner_before, blocks_in}
+use Rattle.feature_model.specs.declared.fault.RingFault.{RingFault}
+use Rattle.feature_model.specs.Blocks.{JoinedBlock, begins_inside, blocks_of, pieces_of, blocks_joined, relation_blocks, joined_parts, inner_before, blocks_in}
 use Rattle.feature_model.proofs.BlockBounds.{relation_blocks-none, relation_blocks-some}
 
 inner_parts : List (List Point) → List Part
@@ -39,13 +40,13 @@ blocks_of-again (o ∷ outer) inner =
     ap (λ (rings : List (List Point)). (o ∷ rings) ∷ blocks_in (inner_parts mine ++ rest)) a ∙ ap (λ (more : List JoinedBlock). (o ∷ mine) ∷ more) (b ∙ c)
 
 joined-again : (o i : Joined) (found : List JoinedBlock) → blocks_joined o i ≡ Ok found → blocks_in (joined_parts found) ≡ found
-joined-again (Err start) i found e = absurd (err_is_no_ok (open_ring start) found e)
-joined-again (Ok os) (Err start) found e = absurd (err_is_no_ok (open_ring start) found e)
+joined-again (Err start) i found e = absurd (err_is_no_ok (RingFault.OpenRing start) found e)
+joined-again (Ok os) (Err start) found e = absurd (err_is_no_ok (RingFault.OpenRing start) found e)
 joined-again (Ok os) (Ok is) found e = subst (λ (f : List JoinedBlock). blocks_in (joined_parts f) ≡ f) (ok_is (blocks_of os is) found e) (blocks_of-again os is)
 
 pub relation_blocks-again : (all : List Part) (found : List JoinedBlock) → relation_blocks all ≡ Ok found → blocks_in (joined_parts found) ≡ found
 relation_blocks-again all found e = by_outer (pieces_of Role.Outer all) refl
   where
     by_outer : (outer : List Piece) → pieces_of Role.Outer all ≡ outer → blocks_in (joined_parts found) ≡ found
-    by_outer [] same = absurd (err_is_no_ok no_outer found (sym (relation_blocks-none all same) ∙ e))
+    by_outer [] same = absurd (err_is_no_ok RingFault.NoOuter found (sym (relation_blocks-none all same) ∙ e))
     by_outer (first ∷ outer) same = joined-again (rings (first ∷ outer)) (rings (pieces_of Role.Inner all)) found (sym (relation_blocks-some all first outer same) ∙ e)

@@ -12,7 +12,8 @@ use Rattle.feature_model.specs.Mapping.{Mapping}
 use Rattle.feature_model.specs.Choice.{Choice, choice}
 use Rattle.feature_model.specs.Points.{geometry_of}
 use Rattle.feature_model.specs.Descriptions.{Description, tags_of, entries_for, may_be_shown, described, description}
-use Rattle.feature_model.specs.Features.{Candidate, candidate_of, by_kind, candidates, Shape, shape, shaped, feature_of, features}
+use Rattle.feature_model.specs.Features.{Shape, shape, shaped, feature_of, features}
+use Rattle.feature_model.specs.Candidates.{Candidate, candidate_of, by_kind, candidates}
 use Rattle.feature_model.specs.Proper.{candidate_key, feature_key}
 use Rattle.feature_model.proofs.ListLemmas.{all-filter_map, all-map, all-weaker}
 

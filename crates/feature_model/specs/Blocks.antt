@@ -2,6 +2,7 @@
 use Rattle.std.specs.Prelude.{◌==◌, position, Option, Some, None, ℕ, Bool, true, false, not, List, [], ◌∷◌, map, filter, flat_map, Result, Ok, Err, if◌then◌else◌}
 use Rattle.std.specs.List.{enumerate_from}
 use Rattle.mf_base.specs.declared.kind.Role.{Role}
+use Rattle.feature_model.specs.declared.fault.RingFault.{RingFault}
 use Rattle.feature_model.specs.Points.{Point, Part}
 use Rattle.feature_model.specs.Rings.{Piece, Joined, rings}
 use Rattle.feature_model.specs.Inside.{Ring, inside}
@@ -47,21 +48,16 @@ has_role Role.Inner part = not (is_outer part.role)
 abbrev pub pieces_of : Role → List Part → List Piece
 pieces_of role all = map (λ (p : ℕ × Part). record { number = p.0; points = p.1.points }) (filter (λ (p : ℕ × Part). has_role role p.1) (enumerate_from 0 all))
 
--- Why a relation has no blocks: it has no outer part, or a ring stays open, which starts with the part of this place.
-pub data NoShape : Type 0 where
-  no_outer : NoShape
-  open_ring : ℕ → NoShape
-
--- the blocks of outer and inner rings, where none of them is open; the outer parts are joined first
-abbrev pub blocks_joined : Joined → Joined → Result (List JoinedBlock) NoShape
-blocks_joined (Err start) inner = Err (open_ring start)
-blocks_joined (Ok outer) (Err start) = Err (open_ring start)
+-- The blocks of outer and inner rings, where none of them is open; the outer parts are joined first
+abbrev pub blocks_joined : Joined → Joined → Result (List JoinedBlock) RingFault
+blocks_joined (Err start) inner = Err (RingFault.OpenRing start)
+blocks_joined (Ok outer) (Err start) = Err (RingFault.OpenRing start)
 blocks_joined (Ok outer) (Ok inner) = Ok (blocks_of outer inner)
 
 -- The blocks of a relation's parts, or why there are none.
-unfoldable pub relation_blocks : List Part → Result (List JoinedBlock) NoShape
+unfoldable pub relation_blocks : List Part → Result (List JoinedBlock) RingFault
 relation_blocks all = elim (pieces_of Role.Outer all) [
-  | [] ↦ Err no_outer
+  | [] ↦ Err RingFault.NoOuter
   | first ∷ outer ↦ blocks_joined (rings (first ∷ outer)) (rings (pieces_of Role.Inner all))
 ]
 

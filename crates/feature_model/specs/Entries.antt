@@ -1,27 +1,14 @@
 -- Which entries a mapping may have, and the mapping of one word `KEY=VALUE@ZOOM`: this project's profile.
-use Rattle.std.specs.Prelude.{◌≤◌, ℕ, Bool, not, ◌&&◌, ◌||◌, nat_le, List, [], ◌∷◌, ◌++◌, length, codes, bytes_eq, Option, option_map, option_and_then, Result, Ok, IsTrue, ok_or, true, false}
+use Rattle.std.specs.Prelude.{◌≤◌, ℕ, Bool, not, ◌&&◌, ◌||◌, nat_le, List, [], ◌∷◌, ◌++◌, length, codes, bytes_eq, Option, option_map, option_and_then, Result, Ok, IsTrue, IfSome, ok_or, true, false}
 use Rattle.std.specs.List.{list_any, AllByRecursion, IsDistinct}
+use Rattle.std.specs.Str.{is_utf8}
 use Rattle.mf_base.specs.Steps.{◌>>=◌, require}
 use Rattle.mf_base.specs.Texts.{Text, begins, has_text, has_byte, is_among, cut, cut_last}
 use Rattle.mf_base.specs.Numbers.{digits_up_to}
 use Rattle.mf_base.specs.Words.{equals}
 use Rattle.mf_base.specs.declared.kind.List as which
+use Rattle.feature_model.specs.declared.fault.MappingFault.{MappingFault}
 use Rattle.feature_model.specs.Mapping.{Entry, Mapping}
-
--- Why a file or a word is no mapping. An entry is told by its list and its place there, from 0.
-pub data MappingFault : Type 0 where
-  -- a file is no TOML
-  toml : MappingFault
-  -- its top has another key than `poi` and `way`, or one of the two is no array of tables
-  shape : MappingFault
-  -- a list has more than 4,096 entries
-  too_many : (list : which.List) → MappingFault
-  -- an entry breaks the entry rule
-  entry : (list : which.List) (index : ℕ) → MappingFault
-  -- an entry breaks the kind rule
-  kind : (list : which.List) (index : ℕ) → MappingFault
-  -- an earlier entry of the list has the same key and value
-  twice : (list : which.List) (index : ℕ) → MappingFault
 
 -- a text of 1 to 255 bytes
 abbrev pub is_short : Text → Bool
@@ -53,10 +40,10 @@ is_there before e = list_any (λ earlier. is_same_tag earlier e) before
 unfoldable pub entry_behind : which.List → List Entry → Option Entry → Result Entry MappingFault
 entry_behind list before told = do
   let index = length before
-  e ← ok_or told (entry list index)
-  _ ← require (keeps_entry_rule list e) (entry list index)
-  _ ← require (keeps_kind_rule e) (kind list index)
-  _ ← require (not (is_there before e)) (twice list index)
+  e ← ok_or told (MappingFault.Entry list index)
+  _ ← require (keeps_entry_rule list e) (MappingFault.Entry list index)
+  _ ← require (keeps_kind_rule e) (MappingFault.Kind list index)
+  _ ← require (not (is_there before e)) (MappingFault.Twice list index)
   Ok e
 
 -- the entries of a list behind those before them, or the first fault in their order
@@ -71,18 +58,27 @@ entries_limit = 4096
 -- The mapping that is told by these entries, or the first fault: the lengths of both lists, and then entry by entry, in both cases `poi` first.
 unfoldable pub mapping_told : List (Option Entry) → List (Option Entry) → Result Mapping MappingFault
 mapping_told poi way = do
-  _ ← require (nat_le (length poi) entries_limit) (too_many which.List.Poi)
-  _ ← require (nat_le (length way) entries_limit) (too_many which.List.Way)
+  _ ← require (nat_le (length poi) entries_limit) (MappingFault.TooMany which.List.Poi)
+  _ ← require (nat_le (length way) entries_limit) (MappingFault.TooMany which.List.Way)
   poi_entries ← entries_behind which.List.Poi [] poi
   way_entries ← entries_behind which.List.Way [] way
   Ok (record { poi = poi_entries; way = way_entries })
 
--- What is accepted. That its texts are UTF-8 follows from where they are read: TOML and words are.
+-- What is accepted.
 
--- an entry keeps both rules
+-- key and value are UTF-8
+abbrev pub IsEntryText : Entry → Type 0
+IsEntryText e = IsTrue (is_utf8 e.key) × IsTrue (is_utf8 e.value)
+
+-- what could be read as an entry is UTF-8, as TOML and words are
+abbrev pub IsTold : Option Entry → Type 0
+IsTold told = IfSome told IsEntryText
+
+-- an entry is UTF-8, and keeps both rules
 pub record IsEntry (list : which.List) (e : Entry) : Type 0 where
   pub entry_rule : IsTrue (keeps_entry_rule list e)
   pub kind_rule : IsTrue (keeps_kind_rule e)
+  pub text : IsEntryText e
 
 -- a list has at most 4,096 entries, each keeps both rules, and no two have the same key and value
 pub record AreEntries (list : which.List) (entries : List Entry) : Type 0 where

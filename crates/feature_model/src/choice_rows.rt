@@ -3,6 +3,7 @@
 ghost use Rattle.std.specs.Prelude.{◌≡◌, map, Some, None, true, false, codes, pos, negsuc, [], ◌∷◌, ◌++◌, replicate};
 ghost use Rattle.feature_model.specs.Mapping.{KeptValue, kept_by};
 ghost use Rattle.feature_model.specs.Choice.{choice, layer_of};
+ghost use Rattle.feature_model.specs.Proper.{has_zoom};
 ghost use Rattle.feature_model.specs.Samples.{forest, tag, entry, benches, water};
 
 /// A value that is literally the text of a kind does not match the kind, only the first pair of a key counts, and a kind reads its range.
@@ -45,4 +46,11 @@ pub fn marks_of_entries()
 pub fn layers()
     ensures { map layer_of (tag (codes "layer") (codes "-1") ∷ tag (codes "layer") (codes "9") ∷ tag (codes "layer") (codes "-9") ∷ tag (codes "layer") (codes "+1") ∷ tag (codes "layer") (codes "2;3") ∷ tag (codes "layer") (codes "9999999999") ∷ [] ∷ [])
         ≡ negsuc 0 ∷ pos 5 ∷ negsuc 4 ∷ pos 0 ∷ pos 0 ∷ pos 5 ∷ pos 0 ∷ [] }
+{}
+
+/// A zoom level of entries is that of one of them.
+#[tactic(auto, unfolding(crate::proofs::Compute::compute))]
+pub fn zooms_of_entries()
+    ensures { map (has_zoom (entry (codes "a") (codes "b") 5 ∷ entry (codes "a") (codes "c") 9 ∷ [])) (0 ∷ 5 ∷ 7 ∷ 9 ∷ [])
+        ≡ false ∷ true ∷ false ∷ true ∷ [] }
 {}

@@ -4,7 +4,8 @@ ghost use Rattle.std.specs.Prelude.{◌≡◌, map, Ok, Err, true, false, pos, n
 ghost use Rattle.mf_base.specs.declared.kind.Role.{Role};
 ghost use Rattle.feature_model.specs.Rings.{rings};
 ghost use Rattle.feature_model.specs.Inside.{inside};
-ghost use Rattle.feature_model.specs.Blocks.{NoShape, blocks_of, relation_blocks, joined_parts, blocks_in};
+ghost use Rattle.feature_model.specs.Blocks.{blocks_of, relation_blocks, joined_parts, blocks_in};
+ghost use Rattle.feature_model.specs.declared.fault.RingFault.{RingFault};
 ghost use Rattle.feature_model.specs.Samples.{at, node_at, piece, stops, part_at, outer, sides, square, points_at};
 ghost use Rattle.feature_model.specs.Points.{way_points};
 
@@ -31,9 +32,9 @@ pub fn rings_of_pieces()
 /// Why a relation has no blocks: an open outer ring comes before an open inner one, and places count all parts.
 #[tactic(auto, unfolding(crate::proofs::Compute::compute))]
 pub fn parts_without_blocks()
-    ensures no_outer { relation_blocks (part_at Role.Inner (1 ∷ 2 ∷ []) ∷ []) ≡ Err NoShape.no_outer }
-    ensures outer_first { relation_blocks (part_at Role.Inner (1 ∷ 2 ∷ []) ∷ part_at Role.Outer (3 ∷ 4 ∷ 3 ∷ []) ∷ part_at Role.Outer (5 ∷ 6 ∷ []) ∷ []) ≡ Err (NoShape.open_ring 2) }
-    ensures inner { relation_blocks (part_at Role.Outer (3 ∷ 4 ∷ 3 ∷ []) ∷ part_at Role.Inner (7 ∷ 8 ∷ 7 ∷ []) ∷ part_at Role.Inner (1 ∷ 2 ∷ []) ∷ []) ≡ Err (NoShape.open_ring 2) }
+    ensures no_outer { relation_blocks (part_at Role.Inner (1 ∷ 2 ∷ []) ∷ []) ≡ Err RingFault.NoOuter }
+    ensures outer_first { relation_blocks (part_at Role.Inner (1 ∷ 2 ∷ []) ∷ part_at Role.Outer (3 ∷ 4 ∷ 3 ∷ []) ∷ part_at Role.Outer (5 ∷ 6 ∷ []) ∷ []) ≡ Err (RingFault.OpenRing 2) }
+    ensures inner { relation_blocks (part_at Role.Outer (3 ∷ 4 ∷ 3 ∷ []) ∷ part_at Role.Inner (7 ∷ 8 ∷ 7 ∷ []) ∷ part_at Role.Inner (1 ∷ 2 ∷ []) ∷ []) ≡ Err (RingFault.OpenRing 2) }
 {}
 
 /// A ring within two outer rings belongs to the first of them, and the inner rings of a block stand in their order.

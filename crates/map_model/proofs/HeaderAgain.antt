@@ -11,7 +11,8 @@ use Rattle.map_model.specs.Layout.{optional}
 use Rattle.map_model.specs.Header.{HeadSettings, HeaderFields, magic_word, mercator_word, box_bytes, head_flags, tag_list_bytes, interval_bytes, middle_bytes, fields_bytes, header_fields_bytes}
 use Rattle.map_model.specs.Reader.{fixed, where_set}
 use Rattle.map_model.specs.TileReading.{has_flag, IsText}
-use Rattle.map_model.specs.HeaderReading.{HeaderKind, Header, string_at, intervals_at, head_at, flags_at, optional_at, version_at, projection_at, fields_at, header_length, fields_of, read_header, IsHeader, shown_header, ReadsHeader, ReadsMapHeader}
+use Rattle.map_model.specs.HeaderReading.{Header, header_text_at, intervals_at, head_at, flags_at, optional_at, version_at, projection_at, fields_at, header_length, fields_of, read_header, IsHeader, shown_header, ReadsHeader, ReadsMapHeader}
+use Rattle.map_model.specs.declared.fault.HeaderKind.{HeaderKind}
 use Rattle.mf_base.proofs.ByteLaws.{length-big_endian}
 use Rattle.map_model.proofs.PlacesAgain.{Again}
 use Rattle.map_model.proofs.RecordsAgain.{num, num-le, flag-num, has_flag-is, fixed_number-again, one_byte-again, where_set-again}
@@ -22,7 +23,7 @@ use Rattle.map_model.proofs.HeaderFieldsFound.{start_bytes}
 
 flags_at-again : (flags : ℕ) (rest : List ℕ) → has_flag flags 0x80 ≡ false → flags_at (flags ∷ rest) ≡ Ok (flags, rest)
 unfolding flags_at
-flags_at-again flags rest plain = rw (one_byte-again HeaderKind.short flags rest, plain) refl
+flags_at-again flags rest plain = rw (one_byte-again HeaderKind.Short flags rest, plain) refl
 
 -- what the flags of a header tell
 record AreFlags (set : HeadSettings) (flags : ℕ) : Type 0 where
@@ -58,10 +59,10 @@ are_flags set other few =
 
 -- a field of so many bytes that nothing is read from
 passed : {X : Type 0} (width : ℕ) (bytes : X → List ℕ) → ((x : X) → length (bytes x) ≡ width) → (o : Option X) (rest : List ℕ)
-    → (field : Option (List ℕ)) × (where_set (is_some o) (fixed HeaderKind.short width) (optional bytes o ++ rest) ≡ Ok (field, rest))
+    → (field : Option (List ℕ)) × (where_set (is_some o) (fixed HeaderKind.Short width) (optional bytes o ++ rest) ≡ Ok (field, rest))
 unfolding Again
 passed width bytes len None rest = (None, refl)
-passed width bytes len (Some x) rest = (Some (bytes x), rw (fixed-again HeaderKind.short width (bytes x) (len x) rest) refl)
+passed width bytes len (Some x) rest = (Some (bytes x), rw (fixed-again HeaderKind.Short width (bytes x) (len x) rest) refl)
 
 -- the optional fields in their order
 abbrev optional_bytes : HeadSettings → List ℕ → List ℕ
@@ -82,9 +83,9 @@ optional_at-again set flags rest f language comment created_by =
       f.created_by,
       (passed 8 start_bytes (λ p. simp (length-append, length-big_endian) refl) set.start after_start).1,
       (passed 1 (big_endian 1) (length-big_endian 1) set.start_zoom after_zoom).1,
-      where_set-again string_at string IsText string_at-again set.language language after_language,
-      where_set-again string_at string IsText string_at-again set.comment comment after_comment,
-      where_set-again string_at string IsText string_at-again set.created_by created_by rest,
+      where_set-again header_text_at string IsText string_at-again set.language language after_language,
+      where_set-again header_text_at string IsText string_at-again set.comment comment after_comment,
+      where_set-again header_text_at string IsText string_at-again set.created_by created_by rest,
     ) refl
 
 -- ---- the other fields
@@ -92,7 +93,7 @@ optional_at-again set flags rest f language comment created_by =
 version_at-again : (total : ℕ) → total < 2 ^ 64 → (rest : List ℕ) → version_at total (big_endian 4 5 ++ (big_endian 8 total ++ rest)) ≡ Ok (tt, rest)
 unfolding version_at Again
 version_at-again total known rest =
-    rw (fixed_number-again HeaderKind.short 4 5 (omega arith) (big_endian 8 total ++ rest), fixed_number-again HeaderKind.short 8 total known rest, eq-eqb total total refl) refl
+    rw (fixed_number-again HeaderKind.Short 4 5 (omega arith) (big_endian 8 total ++ rest), fixed_number-again HeaderKind.Short 8 total known rest, eq-eqb total total refl) refl
 
 mercator_text : IsText mercator_word
 unfolding is_utf8 chars encode
@@ -101,7 +102,7 @@ mercator_text = (omega arith, refl)
 projection_at-again : (tile_size : ℕ) (rest : List ℕ) → projection_at (big_endian 2 tile_size ++ (string mercator_word ++ rest)) ≡ Ok (tt, rest)
 unfolding projection_at Again
 projection_at-again tile_size rest =
-    rw (fixed-again HeaderKind.short 2 (big_endian 2 tile_size) (length-big_endian 2 tile_size) (string mercator_word ++ rest), string_at-again mercator_word mercator_text rest) refl
+    rw (fixed-again HeaderKind.Short 2 (big_endian 2 tile_size) (length-big_endian 2 tile_size) (string mercator_word ++ rest), string_at-again mercator_word mercator_text rest) refl
 
 -- ---- all fields
 
@@ -144,7 +145,7 @@ fields_at-again total end h x =
     ap (fields_at total end) (fields_split total h)
     ∙ rw (
       version_at-again total x.known (big_endian 8 h.settings.date ++ (box_bytes h.bounds ++ after_box)),
-      fixed_number-again HeaderKind.short 8 h.settings.date x.date (box_bytes h.bounds ++ after_box),
+      fixed_number-again HeaderKind.Short 8 h.settings.date x.date (box_bytes h.bounds ++ after_box),
       box_at-again h.bounds x.box after_box,
       projection_at-again h.tile_size ((head_flags h.settings + h.other) ∷ after_flags),
       flags_at-again (head_flags h.settings + h.other) after_flags flags.plain,
@@ -162,9 +163,9 @@ head_of : (total n : ℕ) (word : List ℕ) → length word ≡ 20 → bytes_eq 
 unfolding head_at Again
 head_of total n word len same least within =
     rw (
-      fixed-again HeaderKind.short 20 word len (big_endian 4 n ++ []),
+      fixed-again HeaderKind.Short 20 word len (big_endian 4 n ++ []),
       same,
-      fixed_number-again HeaderKind.short 4 n (omega (arith, least)) [],
+      fixed_number-again HeaderKind.Short 4 n (omega (arith, least)) [],
       le-leb n 5000000 least,
       le-leb (24 + n) total within,
     ) refl

@@ -13,8 +13,9 @@ use Rattle.mf_base.proofs.StepLaws.{bind_ok, require_ok, ok_is}
 use Rattle.map_model.specs.Layout.{optional}
 use Rattle.map_model.specs.Header.{mercator_word, be_signed}
 use Rattle.map_model.specs.Reader.{fixed}
-use Rattle.map_model.specs.TileReading.{has_flag, IsText, IsInRange}
-use Rattle.map_model.specs.HeaderReading.{HeaderKind, string_at, signed_32, flags_at, optional_at, version_at, projection_at}
+use Rattle.map_model.specs.TileReading.{has_flag, IsText, IsPlaceOf32Bits}
+use Rattle.map_model.specs.HeaderReading.{header_text_at, signed_32, flags_at, optional_at, version_at, projection_at}
+use Rattle.map_model.specs.declared.fault.HeaderKind.{HeaderKind}
 use Rattle.mf_base.proofs.ByteLaws.{drop-bytes}
 use Rattle.map_model.proofs.ReaderFound.{Takes, IsFound, Finds, AreSoManyBytes, then, fixed-found, fixed_number-found, where_set-found}
 use Rattle.map_model.proofs.RecordsFound.{byte-found, signed_32-within}
@@ -27,7 +28,7 @@ unfolding flags_at
 flags_at-found bytes r small e =
     let flags = bind_ok _ _ r e in
     let plain = bind_ok _ _ r flags.2 in
-    let found = byte-found HeaderKind.short bytes flags.0 small flags.1 in
+    let found = byte-found HeaderKind.Short bytes flags.0 small flags.1 in
     subst (IsFound (λ f. f ∷ []) (λ f. (f < 256) × (has_flag f 0x80 ≡ false)) bytes) (ok_is flags.0 r plain.2) (found.0, (found.1, not-true _ (require_ok _ _ _ plain.1)))
 
 abbrev pub start_bytes : Place → List ℕ
@@ -37,7 +38,7 @@ start_bytes p = be_signed p.lat ++ be_signed p.lon
 record IsStart (field : Option (List ℕ)) (start : Option Place) : Type 0 where
   spelt : optional (λ f. f) field ≡ optional start_bytes start
   same : is_some start ≡ is_some field
-  within : IfSome start IsInRange
+  within : IfSome start IsPlaceOf32Bits
 
 two_fours : (s : List ℕ) → length s ≡ 8 → take 4 s ++ take 4 (drop 4 s) ≡ s
 two_fours s len = sym (take-add 4 4 s) ∙ take_all 8 s (omega (arith, len))
@@ -74,7 +75,7 @@ pub record AreOptions (flags : ℕ) (bytes rest : List ℕ) : Type 0 where
   pub after_start : List ℕ
   pub start_text : Takes bytes (optional start_bytes start) after_start
   pub start_set : is_some start ≡ has_flag flags 0x40
-  pub start_fits : IfSome start IsInRange
+  pub start_fits : IfSome start IsPlaceOf32Bits
   pub zoom : Option ℕ
   pub after_zoom : List ℕ
   pub zoom_text : Takes after_start (optional (big_endian 1) zoom) after_zoom
@@ -103,11 +104,11 @@ optional_at-found flags bytes r small e =
     let language = bind_ok _ _ r zoom.2 in
     let comment = bind_ok _ _ r language.2 in
     let created_by = bind_ok _ _ r comment.2 in
-    let a = where_set-found (fixed HeaderKind.short 8) (λ f. f) (AreSoManyBytes 8) (fixed-found HeaderKind.short 8) (has_flag flags 0x40) bytes start.0 small start.1 in
-    let b = where_set-found (fixed HeaderKind.short 1) (λ f. f) (AreSoManyBytes 1) (fixed-found HeaderKind.short 1) (has_flag flags 0x20) start.0.1 zoom.0 a.0.behind zoom.1 in
-    let c = where_set-found string_at string IsText string_at-found (has_flag flags 0x10) zoom.0.1 language.0 b.0.behind language.1 in
-    let d = where_set-found string_at string IsText string_at-found (has_flag flags 0x08) language.0.1 comment.0 c.0.behind comment.1 in
-    let f = where_set-found string_at string IsText string_at-found (has_flag flags 0x04) comment.0.1 created_by.0 d.0.behind created_by.1 in
+    let a = where_set-found (fixed HeaderKind.Short 8) (λ f. f) (AreSoManyBytes 8) (fixed-found HeaderKind.Short 8) (has_flag flags 0x40) bytes start.0 small start.1 in
+    let b = where_set-found (fixed HeaderKind.Short 1) (λ f. f) (AreSoManyBytes 1) (fixed-found HeaderKind.Short 1) (has_flag flags 0x20) start.0.1 zoom.0 a.0.behind zoom.1 in
+    let c = where_set-found header_text_at string IsText string_at-found (has_flag flags 0x10) zoom.0.1 language.0 b.0.behind language.1 in
+    let d = where_set-found header_text_at string IsText string_at-found (has_flag flags 0x08) language.0.1 comment.0 c.0.behind comment.1 in
+    let f = where_set-found header_text_at string IsText string_at-found (has_flag flags 0x04) comment.0.1 created_by.0 d.0.behind created_by.1 in
     let place = start_of start.0.0 a.1.0 in
     let number = zoom_of zoom.0.0 b.1.0 in
     subst (λ (q : Unit {0} × List ℕ). AreOptions flags bytes q.1) (ok_is (tt, created_by.0.1) r created_by.2)
@@ -147,8 +148,8 @@ version_at-found total bytes r small e =
     let five = bind_ok _ _ r v.2 in
     let told = bind_ok _ _ r five.2 in
     let right = bind_ok _ _ r told.2 in
-    let a = fixed_number-found HeaderKind.short 4 bytes v.0 small v.1 in
-    let b = fixed_number-found HeaderKind.short 8 v.0.1 told.0 a.0.behind told.1 in
+    let a = fixed_number-found HeaderKind.Short 4 bytes v.0 small v.1 in
+    let b = fixed_number-found HeaderKind.Short 8 v.0.1 told.0 a.0.behind told.1 in
     let is_five = eqb-true v.0.0 5 (require_ok _ _ _ five.1) in
     let is_total = eqb-true told.0.0 total (require_ok _ _ _ right.1) in
     subst (IsFound (λ (u : Unit {0}). big_endian 4 5 ++ big_endian 8 total) (λ u. total < 2 ^ 64) bytes) (ok_is (tt, told.0.1) r right.2)
@@ -166,7 +167,7 @@ projection_at-found bytes r small e =
     let size = bind_ok _ _ r e in
     let word = bind_ok _ _ r size.2 in
     let right = bind_ok _ _ r word.2 in
-    let a = fixed-found HeaderKind.short 2 bytes size.0 small size.1 in
+    let a = fixed-found HeaderKind.Short 2 bytes size.0 small size.1 in
     let b = string_at-found size.0.1 word.0 a.0.behind word.1 in
     let is = (bytes_eq-Decides word.0.0 mercator_word).0 (require_ok _ _ _ right.1) in
     let spelt = number_field 2 size.0.0 a.1.1 (omega (arith, a.1.0)) ∙ take_all 2 size.0.0 (omega (arith, a.1.0)) in

@@ -10,11 +10,12 @@ use Rattle.mf_base.specs.declared.place.Rect.{Rect}
 use Rattle.mf_base.specs.declared.tile.Interval.{Interval}
 use Rattle.mf_base.proofs.StepLaws.{err_is_no_ok, bind_ok, require_ok, ok_is}
 use Rattle.map_model.specs.Header.{HeadSettings, SubFile, HeaderFields, magic_word, head_flags, interval_bytes, middle_bytes, fields_bytes, header_fields_bytes}
-use Rattle.map_model.specs.Reader.{placed, fixed_number}
+use Rattle.map_model.specs.Reader.{with_place, fixed_number}
 use Rattle.map_model.specs.TileReading.{has_flag}
-use Rattle.map_model.specs.HeaderReading.{HeaderKind, HeaderFault, Header, tag_list_at, box_at, intervals_at, head_at, flags_at, optional_at, version_at, projection_at, fields_at, value_alone, header_length, fields_of, read_header, FitsInterval, is_interval, IsHeader, shown_header, ReadsHeader, ReadsMapHeader}
-use Rattle.mf_base.proofs.ByteLaws.{length-big_endian}
-use Rattle.mf_base.proofs.ByteLaws.{take-bytes, drop-bytes}
+use Rattle.map_model.specs.HeaderReading.{header_fault_at, Header, tag_list_at, box_at, intervals_at, head_at, flags_at, optional_at, version_at, projection_at, fields_at, value_alone, header_length, fields_of, read_header, FitsInterval, is_interval, IsHeader, shown_header, ReadsHeader, ReadsMapHeader}
+use Rattle.map_model.specs.declared.fault.HeaderKind.{HeaderKind}
+use Rattle.map_model.specs.declared.fault.HeaderFault.{HeaderFault}
+use Rattle.mf_base.proofs.ByteLaws.{length-big_endian, take-bytes, drop-bytes}
 use Rattle.map_model.proofs.ReaderFound.{placed_ok, none_left, Takes, then, fixed-found, fixed_number-found}
 use Rattle.map_model.proofs.RecordsFound.{below_4, flag_as}
 use Rattle.map_model.proofs.HeaderPartsFound.{IsIntervalOf, tag_list_at-found, box_at-found, intervals_at-found}
@@ -44,7 +45,7 @@ record FieldParts (total end : ℕ) (bytes : List ℕ) (r : Header × List ℕ) 
   front : Unit {0} × List ℕ
   at_front : version_at total bytes ≡ Ok front
   date : ℕ × List ℕ
-  at_date : fixed_number HeaderKind.short 8 front.1 ≡ Ok date
+  at_date : fixed_number HeaderKind.Short 8 front.1 ≡ Ok date
   box : Rect × List ℕ
   at_box : box_at date.1 ≡ Ok box
   tile : Unit {0} × List ℕ
@@ -130,7 +131,7 @@ fields_from : (total end : ℕ) (bytes : List ℕ) (r : Header × List ℕ) → 
 unfolding fields_bytes middle_bytes
 fields_from total end bytes r small least within x =
     let a = version_at-found total bytes x.front small x.at_front in
-    let b = fixed_number-found HeaderKind.short 8 x.front.1 x.date a.0.behind x.at_date in
+    let b = fixed_number-found HeaderKind.Short 8 x.front.1 x.date a.0.behind x.at_date in
     let c = box_at-found x.date.1 x.box b.0.behind x.at_box in
     let p = projection_at-found x.box.1 x.tile c.0.behind x.at_tile in
     let f = flags_at-found x.tile.1 x.flags p.text.behind x.at_flags in
@@ -188,8 +189,8 @@ head_at-found total bytes r small e =
     let right = bind_ok _ _ r word.2 in
     let n = bind_ok _ _ r right.2 in
     let fits = bind_ok _ _ r n.2 in
-    let a = fixed-found HeaderKind.short 20 bytes word.0 small word.1 in
-    let b = fixed_number-found HeaderKind.short 4 word.0.1 n.0 a.0.behind n.1 in
+    let a = fixed-found HeaderKind.Short 20 bytes word.0 small word.1 in
+    let b = fixed_number-found HeaderKind.Short 4 word.0.1 n.0 a.0.behind n.1 in
     let is = (bytes_eq-Decides word.0.0 magic_word).0 (require_ok _ _ _ right.1) in
     let both = and_parts (nat_le n.0.0 5000000) (nat_le (24 + n.0.0) total) (require_ok _ _ _ fits.1) in
     subst (λ (q : ℕ × List ℕ). IsHead total bytes q.0 q.1) (ok_is n.0 r fits.2)
@@ -215,8 +216,8 @@ length-magic n = length-append magic_word (big_endian 4 n) ∙ ap (λ k. 20 + k)
 header_length-found : (total n : ℕ) (bytes : List ℕ) → IsBytes bytes → 24 ≤ length bytes → header_length total bytes ≡ Ok n → IsStart total bytes n
 unfolding header_length
 header_length-found total n bytes small some e =
-    let alone = value_alone_ok (placed (length (take 24 bytes)) (head_at total (take 24 bytes))) n e in
-    let read = placed_ok (length (take 24 bytes)) (head_at total (take 24 bytes)) (n, alone.0) alone.1 in
+    let alone = value_alone_ok (with_place header_fault_at (length (take 24 bytes)) (head_at total (take 24 bytes))) n e in
+    let read = placed_ok header_fault_at (length (take 24 bytes)) (head_at total (take 24 bytes)) (n, alone.0) alone.1 in
     let head = head_at-found total (take 24 bytes) (n, alone.0) (take-bytes 24 bytes small) read in
     let all = length-take-le 24 bytes some in
     let sum = ap length head.text.spelt ∙ length-append (magic_word ++ big_endian 4 n) alone.0 in
@@ -227,8 +228,8 @@ fields_of-found : (total n : ℕ) (bytes : List ℕ) (header : Header) → IsByt
 unfolding fields_of
 fields_of-found total n bytes header small start e =
     let part = drop 24 (take (24 + n) bytes) in
-    let alone = value_alone_ok (placed (length (take (24 + n) bytes)) (fields_at total (24 + n) part)) header e in
-    let read = placed_ok (length (take (24 + n) bytes)) (fields_at total (24 + n) part) (header, alone.0) alone.1 in
+    let alone = value_alone_ok (with_place header_fault_at (length (take (24 + n) bytes)) (fields_at total (24 + n) part)) header e in
+    let read = placed_ok header_fault_at (length (take (24 + n) bytes)) (fields_at total (24 + n) part) (header, alone.0) alone.1 in
     let least = start.least in
     fields_from total (24 + n) part (header, alone.0) (drop-bytes 24 (take (24 + n) bytes) (take-bytes (24 + n) bytes small)) (omega (arith, least)) start.within
     (field_parts total (24 + n) part (header, alone.0) read)
@@ -259,8 +260,8 @@ pub file_spelled : (file : List ℕ) (header : Header) → IsBytes file → read
 unfolding read_header header_length
 file_spelled file header small e =
     let parts = bind_ok _ _ header e in
-    let alone = value_alone_ok (placed (length (take 24 file)) (head_at (length file) (take 24 file))) parts.0 parts.1 in
-    let read = placed_ok (length (take 24 file)) (head_at (length file) (take 24 file)) (parts.0, alone.0) alone.1 in
+    let alone = value_alone_ok (with_place header_fault_at (length (take 24 file)) (head_at (length file) (take 24 file))) parts.0 parts.1 in
+    let read = placed_ok header_fault_at (length (take 24 file)) (head_at (length file) (take 24 file)) (parts.0, alone.0) alone.1 in
     let head = head_at-found (length file) (take 24 file) (parts.0, alone.0) (take-bytes 24 file small) read in
     (24 + parts.0, header_spelled (length file) parts.0 file header small parts.1 head.within e)
 

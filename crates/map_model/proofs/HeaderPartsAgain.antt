@@ -16,7 +16,8 @@ use Rattle.mf_base.proofs.NumberLemmas.{unsigned_front-again}
 use Rattle.map_model.specs.Header.{SubFile, be_signed, box_bytes, tag_list_bytes, interval_bytes}
 use Rattle.map_model.specs.Reader.{fixed}
 use Rattle.map_model.specs.TileReading.{IsText}
-use Rattle.map_model.specs.HeaderReading.{HeaderKind, string_at, tag_name_at, tag_list_at, signed_32, rect_of_bytes, box_at, interval_of_bytes, is_interval, interval_at, intervals_at, IsTagName, AreTagNames, FitsInterval}
+use Rattle.map_model.specs.HeaderReading.{header_text_at, tag_name_at, tag_list_at, signed_32, rect_of_bytes, box_at, interval_of_bytes, is_interval, interval_at, intervals_at, IsTagName, AreTagNames, FitsInterval}
+use Rattle.map_model.specs.declared.fault.HeaderKind.{HeaderKind}
 use Rattle.mf_base.proofs.ByteLaws.{length-big_endian}
 use Rattle.map_model.proofs.PlacesAgain.{Again, times-again, and-true}
 use Rattle.map_model.proofs.RecordsAgain.{fixed_number-again}
@@ -24,10 +25,10 @@ use Rattle.map_model.proofs.HeaderPartsFound.{IsIntervalOf}
 
 -- ---- strings
 
-pub string_at-again : (text : List ℕ) → IsText text → Again string_at (string text) text
-unfolding Again string_at string
+pub string_at-again : (text : List ℕ) → IsText text → Again header_text_at (string text) text
+unfolding Again header_text_at string
 string_at-again text h rest =
-    ap string_at (append_assoc (vbe_unsigned (length text)) text rest)
+    ap header_text_at (append_assoc (vbe_unsigned (length text)) text rest)
     ∙ rw (
       unsigned_front-again (length text) (text ++ rest) h.0,
       drop_at (vbe_unsigned (length text)) (text ++ rest) (length (vbe_unsigned (length text))) refl,
@@ -46,7 +47,7 @@ unfolding Again tag_list_at
 tag_list_at-again tags h rest =
     ap tag_list_at (append_assoc (big_endian 2 (length tags)) (flat_map string tags) rest)
     ∙ rw (
-      fixed_number-again HeaderKind.short 2 (length tags) h.0 (flat_map string tags ++ rest),
+      fixed_number-again HeaderKind.Short 2 (length tags) h.0 (flat_map string tags ++ rest),
       times-again tag_name_at string IsTagName tag_name_at-again tags h.1 rest,
     ) refl
 
@@ -115,7 +116,7 @@ box_again box h =
 
 pub box_at-again : (box : Rect) → is_rect box ≡ true → Again box_at (box_bytes box) box
 unfolding Again box_at
-box_at-again box h rest = rw (fixed-again HeaderKind.short 16 (box_bytes box) (simp (length-append, length-big_endian) refl) rest, ap is_rect (box_again box h) ∙ h, box_again box h) refl
+box_at-again box h rest = rw (fixed-again HeaderKind.Short 16 (box_bytes box) (simp (length-append, length-big_endian) refl) rest, ap is_rect (box_again box h) ∙ h, box_again box h) refl
 
 -- ---- intervals
 
@@ -149,7 +150,7 @@ interval_at-again : (total end : ℕ) (at : Interval × SubFile) → IsIntervalO
 unfolding Again interval_at
 interval_at-again total end at h rest =
     rw (
-      fixed-again HeaderKind.short 19 (interval_bytes at) (simp (length-append, length-big_endian) refl) rest,
+      fixed-again HeaderKind.Short 19 (interval_bytes at) (simp (length-append, length-big_endian) refl) rest,
       ap (is_interval total end) (interval_again at h.0) ∙ h.1,
       interval_again at h.0,
     ) refl
@@ -163,7 +164,7 @@ pub intervals_at-again : (total end : ℕ) (ats : List (Interval × SubFile)) �
 unfolding Again intervals_at
 intervals_at-again total end ats some few f h rest =
     rw (
-      fixed_number-again HeaderKind.short 1 (length ats) few (flat_map interval_bytes ats ++ rest),
+      fixed_number-again HeaderKind.Short 1 (length ats) few (flat_map interval_bytes ats ++ rest),
       le-leb 1 (length ats) some,
       times-again (interval_at total end) interval_bytes (IsIntervalOf total end) (interval_at-again total end) ats (all_intervals total end ats f h) rest,
     ) refl

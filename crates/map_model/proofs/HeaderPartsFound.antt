@@ -20,7 +20,8 @@ use Rattle.mf_base.proofs.BigBytes.{big_bytes-big_number}
 use Rattle.map_model.specs.Header.{SubFile, be_signed, box_bytes, tag_list_bytes, interval_bytes}
 use Rattle.map_model.specs.Reader.{with_rest}
 use Rattle.map_model.specs.TileReading.{IsText}
-use Rattle.map_model.specs.HeaderReading.{HeaderKind, length_of, string_at, tag_name_at, tag_list_at, signed_32, rect_of_bytes, box_at, interval_of_bytes, is_interval, interval_at, intervals_at, IsTagName, AreTagNames, FitsInterval}
+use Rattle.map_model.specs.HeaderReading.{length_of, header_text_at, tag_name_at, tag_list_at, signed_32, rect_of_bytes, box_at, interval_of_bytes, is_interval, interval_at, intervals_at, IsTagName, AreTagNames, FitsInterval}
+use Rattle.map_model.specs.declared.fault.HeaderKind.{HeaderKind}
 use Rattle.mf_base.proofs.ByteLaws.{drop-bytes}
 use Rattle.map_model.proofs.ReaderFound.{Takes, IsFound, Finds, then, fixed-found, fixed_number-found, times-found}
 use Rattle.map_model.proofs.PlacesFound.{unsigned-found, text_found}
@@ -31,8 +32,8 @@ length_of-ok : (bytes : List ℕ) (f : Result (ℕ × List ℕ) VbeFault) (n : �
 length_of-ok bytes (Ok m) n e = cc
 length_of-ok bytes (Err f) n e = absurd (err_is_no_ok _ n e)
 
-pub string_at-found : Finds string_at string IsText
-unfolding string_at
+pub string_at-found : Finds header_text_at string IsText
+unfolding header_text_at
 string_at-found bytes r small e =
     let n = bind_ok _ _ r e in
     let whole = bind_ok _ _ r n.2 in
@@ -53,7 +54,7 @@ pub tag_list_at-found : Finds tag_list_at tag_list_bytes AreTagNames
 unfolding tag_list_at
 tag_list_at-found bytes r small e =
     let n = bind_ok _ _ r e in
-    let count = fixed_number-found HeaderKind.short 2 bytes n.0 small n.1 in
+    let count = fixed_number-found HeaderKind.Short 2 bytes n.0 small n.1 in
     let names = times-found tag_name_at string IsTagName tag_name_at-found n.0.0 n.0.1 r count.0.behind n.2 in
     let many = names.1.0 in
     (then (subst (λ k. Takes bytes (big_endian 2 k) n.0.1) (sym many) count.0) names.0, (rw many count.1, names.1.1))
@@ -92,7 +93,7 @@ unfolding box_at
 box_at-found bytes r small e =
     let sides = bind_ok _ _ r e in
     let good = bind_ok _ _ r sides.2 in
-    let found = fixed-found HeaderKind.short 16 bytes sides.0 small sides.1 in
+    let found = fixed-found HeaderKind.Short 16 bytes sides.0 small sides.1 in
     let spelt = box_spelled sides.0.0 found.1.1 found.1.0 in
     subst (IsFound box_bytes IsBox bytes) (ok_is (rect_of_bytes sides.0.0, sides.0.1) r good.2)
     (subst (λ text. Takes bytes text sides.0.1) (sym spelt) found.0, require_ok _ _ _ good.1)
@@ -137,7 +138,7 @@ unfolding interval_at
 interval_at-found total end bytes r small e =
     let field = bind_ok _ _ r e in
     let good = bind_ok _ _ r field.2 in
-    let found = fixed-found HeaderKind.short 19 bytes field.0 small field.1 in
+    let found = fixed-found HeaderKind.Short 19 bytes field.0 small field.1 in
     let spelt = interval_spelled field.0.0 found.1.1 found.1.0 in
     subst (IsFound interval_bytes (IsIntervalOf total end) bytes) (ok_is (interval_of_bytes field.0.0, field.0.1) r good.2)
     (subst (λ text. Takes bytes text field.0.1) (sym spelt) found.0, (interval_fits field.0.0 found.1.1, require_ok _ _ _ good.1))
@@ -156,7 +157,7 @@ unfolding intervals_at
 intervals_at-found total end bytes r small e =
     let n = bind_ok _ _ r e in
     let some = bind_ok _ _ r n.2 in
-    let count = fixed_number-found HeaderKind.short 1 bytes n.0 small n.1 in
+    let count = fixed_number-found HeaderKind.Short 1 bytes n.0 small n.1 in
     let all = times-found (interval_at total end) interval_bytes (IsIntervalOf total end) (interval_at-found total end) n.0.0 n.0.1 r count.0.behind some.2 in
     let many = all.1.0 in
     record {

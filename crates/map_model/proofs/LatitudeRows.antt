@@ -3,7 +3,8 @@ use Rattle.std.proofs.Common.{◌≡◌, ℕ, zero, suc, ◌≤◌, ◌-◌, ref
 use Rattle.std.specs.Prelude.{pos, negsuc}
 use Rattle.map_model.specs.Numbers.{least}
 use Rattle.map_model.specs.Mercator.{raw_lat, north_lat, fine_row, row, corner_lat, corner_lon, corner}
-use Rattle.map_model.specs.Tiles.{origin, rect_bits}
+use Rattle.map_model.specs.Rectangles.{origin}
+use Rattle.map_model.specs.Bitmap.{rect_bits}
 use Rattle.map_model.proofs.MercatorLemmas.{fine_row-is, fine_row-none, edge_lat-north, edge_lat-south}
 use Rattle.map_model.proofs.Compute.{compute, latitudes}
 

@@ -14,10 +14,13 @@ use Rattle.mf_base.specs.declared.place.Place.{Place}
 use Rattle.mf_base.specs.declared.tile.Interval.{Interval}
 use Rattle.mf_base.specs.declared.tile.TilePlace.{TilePlace}
 use Rattle.feature_model.specs.Features.{Feature}
-use Rattle.map_model.specs.Tiles.{is_poi, is_way, effective_zoom, zooms, of_zoom, by_zoom, in_order, in_tile, members, sub_tile_bits}
+use Rattle.map_model.specs.Members.{is_poi, is_way, of_zoom, by_zoom, in_tile_order, in_tile, members}
+use Rattle.map_model.specs.Intervals.{raised_zoom, zooms}
+use Rattle.map_model.specs.Bitmap.{sub_tile_bits}
 use Rattle.map_model.specs.Layout.{Level, sized, level_count_bytes, levels_bytes, poi_fields_bytes, way_fields_bytes}
 use Rattle.map_model.specs.TileBytes.{poi_fields, poi_bytes, way_fields, way_bytes, tile_corner, tile_bytes, written_level, written_levels}
-use Rattle.map_model.specs.Listed.{TagLists, Listed, poi, way, shown_poi, shown_way, shown_levels, listed}
+use Rattle.map_model.specs.Listed.{Listed, poi, way, shown_poi, shown_way, shown_levels, listed}
+use Rattle.map_model.specs.TagLists.{TagLists}
 
 -- ---- lists
 
@@ -82,7 +85,7 @@ flat_map_nothing (x ∷ xs) = flat_map_nothing xs
 filter-by_zoom : (p : Feature → Bool) (interval : Interval) (fs : List Feature) → filter p (by_zoom interval fs) ≡ by_zoom interval (filter p fs)
 filter-by_zoom p interval fs =
     filter-flat_map p (λ z. of_zoom interval z fs) (zooms interval)
-    ∙ flat_map_ext (λ z. filter p (of_zoom interval z fs)) (λ z. of_zoom interval z (filter p fs)) (λ z. filter-comm p (λ f. effective_zoom interval f.zoom == z) fs) (zooms interval)
+    ∙ flat_map_ext (λ z. filter p (of_zoom interval z fs)) (λ z. of_zoom interval z (filter p fs)) (λ z. filter-comm p (λ f. raised_zoom interval f.zoom == z) fs) (zooms interval)
 
 pub by_zoom-nil : (interval : Interval) → by_zoom interval [] ≡ []
 by_zoom-nil interval = flat_map_nothing (zooms interval)
@@ -94,15 +97,15 @@ poi_is_no_way : (f : Feature) → is_poi f ≡ true → is_way f ≡ false
 poi_is_no_way f e = rw e refl
 
 -- of members in order, the POIs are by zoom, and so are the ways
-pois-in_order : (interval : Interval) (fs : List Feature) → filter is_poi (in_order interval fs) ≡ by_zoom interval (filter is_poi fs)
-unfolding in_order
-pois-in_order interval fs =
+pois-in_tile_order : (interval : Interval) (fs : List Feature) → filter is_poi (in_tile_order interval fs) ≡ by_zoom interval (filter is_poi fs)
+unfolding in_tile_order
+pois-in_tile_order interval fs =
     filter-append is_poi (by_zoom interval (filter is_poi fs)) (by_zoom interval (filter is_way fs))
     ∙ rw (filter-by_zoom is_poi interval (filter is_poi fs), filter-by_zoom is_poi interval (filter is_way fs), filter-idem is_poi fs, filter-none is_poi is_way way_is_no_poi fs, by_zoom-nil interval) (append-nil (by_zoom interval (filter is_poi fs)))
 
-ways-in_order : (interval : Interval) (fs : List Feature) → filter is_way (in_order interval fs) ≡ by_zoom interval (filter is_way fs)
-unfolding in_order
-ways-in_order interval fs =
+ways-in_tile_order : (interval : Interval) (fs : List Feature) → filter is_way (in_tile_order interval fs) ≡ by_zoom interval (filter is_way fs)
+unfolding in_tile_order
+ways-in_tile_order interval fs =
     filter-append is_way (by_zoom interval (filter is_poi fs)) (by_zoom interval (filter is_way fs))
     ∙ rw (filter-by_zoom is_way interval (filter is_poi fs), filter-by_zoom is_way interval (filter is_way fs), filter-idem is_way fs, filter-none is_way is_poi poi_is_no_way fs, by_zoom-nil interval) refl
 
@@ -114,16 +117,16 @@ record InOrder (interval : Interval) (fs : List Feature) : Type 0 where
   ways : filter is_way fs ≡ by_zoom interval (filter is_way fs)
   whole : fs ≡ by_zoom interval (filter is_poi fs) ++ by_zoom interval (filter is_way fs)
 
-in_order-parts : (interval : Interval) (fs : List Feature) → fs ≡ in_order interval fs → InOrder interval fs
-unfolding in_order
+in_order-parts : (interval : Interval) (fs : List Feature) → fs ≡ in_tile_order interval fs → InOrder interval fs
+unfolding in_tile_order
 in_order-parts interval fs e = record {
-  pois = ap (filter is_poi) e ∙ pois-in_order interval fs;
-  ways = ap (filter is_way) e ∙ ways-in_order interval fs;
+  pois = ap (filter is_poi) e ∙ pois-in_tile_order interval fs;
+  ways = ap (filter is_way) e ∙ ways-in_tile_order interval fs;
   whole = e;
 }
 
 abbrev zoom_count : Interval → ℕ → List Feature → ℕ
-zoom_count interval zoom features = count_by (λ g. effective_zoom interval g.zoom == zoom) features
+zoom_count interval zoom features = count_by (λ g. raised_zoom interval g.zoom == zoom) features
 
 abbrev zoom_table : Interval → List Feature → List ℕ
 zoom_table interval fs = flat_map (λ zoom. vbe_unsigned (zoom_count interval zoom (filter is_poi fs)) ++ vbe_unsigned (zoom_count interval zoom (filter is_way fs))) (zooms interval)
@@ -135,7 +138,7 @@ counts-level : (corner : Place) (tile : TilePlace) (fs : List Feature) (z : ℕ)
     → level_count_bytes (written_level corner tile fs z) ≡ vbe_unsigned (zoom_count tile.interval z (filter is_poi fs)) ++ vbe_unsigned (zoom_count tile.interval z (filter is_way fs))
 unfolding written_level
 counts-level corner tile fs z =
-    let same : Feature → Bool = λ f. effective_zoom tile.interval f.zoom == z in
+    let same : Feature → Bool = λ f. raised_zoom tile.interval f.zoom == z in
     let p = length-map (filter same (filter is_poi fs)) poi_fields ∙ length-filter same (filter is_poi fs) in
     let w = length-map (filter same (filter is_way fs)) (λ f. way_fields corner (sub_tile_bits f tile) f) ∙ length-filter same (filter is_way fs) in
     λ i. vbe_unsigned (p i) ++ vbe_unsigned (w i)
@@ -186,23 +189,23 @@ zip-map : {A B : Type 0} (f : A → B) (xs : List A) → zip xs (map f xs) ≡ m
 zip-map f [] = refl
 zip-map f (x ∷ xs) = λ i. (x, f x) ∷ zip-map f xs i
 
-listed-poi : (tags : TagLists) (tile : TilePlace) (f : Feature) → is_poi f ≡ true → listed tags tile f ≡ poi (shown_poi tags.poi (effective_zoom tile.interval f.zoom) (poi_fields f))
+listed-poi : (tags : TagLists) (tile : TilePlace) (f : Feature) → is_poi f ≡ true → listed tags tile f ≡ poi (shown_poi tags.poi (raised_zoom tile.interval f.zoom) (poi_fields f))
 unfolding listed
-listed-poi tags tile f e = ap (λ b. cond b (poi (shown_poi tags.poi (effective_zoom tile.interval f.zoom) (poi_fields f))) (way (shown_way tags.way (effective_zoom tile.interval f.zoom) (way_fields (tile_corner tile) (sub_tile_bits f tile) f)))) e
+listed-poi tags tile f e = ap (λ b. cond b (poi (shown_poi tags.poi (raised_zoom tile.interval f.zoom) (poi_fields f))) (way (shown_way tags.way (raised_zoom tile.interval f.zoom) (way_fields (tile_corner tile) (sub_tile_bits f tile) f)))) e
 
-listed-way : (tags : TagLists) (tile : TilePlace) (f : Feature) → is_poi f ≡ false → listed tags tile f ≡ way (shown_way tags.way (effective_zoom tile.interval f.zoom) (way_fields (tile_corner tile) (sub_tile_bits f tile) f))
+listed-way : (tags : TagLists) (tile : TilePlace) (f : Feature) → is_poi f ≡ false → listed tags tile f ≡ way (shown_way tags.way (raised_zoom tile.interval f.zoom) (way_fields (tile_corner tile) (sub_tile_bits f tile) f))
 unfolding listed
-listed-way tags tile f e = ap (λ b. cond b (poi (shown_poi tags.poi (effective_zoom tile.interval f.zoom) (poi_fields f))) (way (shown_way tags.way (effective_zoom tile.interval f.zoom) (way_fields (tile_corner tile) (sub_tile_bits f tile) f)))) e
+listed-way tags tile f e = ap (λ b. cond b (poi (shown_poi tags.poi (raised_zoom tile.interval f.zoom) (poi_fields f))) (way (shown_way tags.way (raised_zoom tile.interval f.zoom) (way_fields (tile_corner tile) (sub_tile_bits f tile) f)))) e
 
 -- features of one kind and one zoom, shown with that zoom
 module _ (tags : TagLists) (tile : TilePlace) (kind : Feature → Bool) (at_zoom : ℕ → Feature → Listed)
-    (agrees : (f : Feature) → kind f ≡ true → at_zoom (effective_zoom tile.interval f.zoom) f ≡ listed tags tile f) (z : ℕ) where
+    (agrees : (f : Feature) → kind f ≡ true → at_zoom (raised_zoom tile.interval f.zoom) f ≡ listed tags tile f) (z : ℕ) where
   same_zoom : Feature → Bool
-  same_zoom f = effective_zoom tile.interval f.zoom == z
+  same_zoom f = raised_zoom tile.interval f.zoom == z
 
   one : (f : Feature) → kind f ≡ true → same_zoom f ≡ true → at_zoom z f ≡ listed tags tile f
   unfolding same_zoom
-  one f e k = ap (λ n. at_zoom n f) (sym (eqb-true (effective_zoom tile.interval f.zoom) z k)) ∙ agrees f e
+  one f e k = ap (λ n. at_zoom n f) (sym (eqb-true (raised_zoom tile.interval f.zoom) z k)) ∙ agrees f e
 
   pass : (xs : List Feature) → map (at_zoom z) (filter kind (filter same_zoom xs)) ≡ map (listed tags tile) (filter kind (filter same_zoom xs))
   pass [] = refl
@@ -246,17 +249,17 @@ module _ (tags : TagLists) (tile : TilePlace) (fs : List Feature) where
       (λ z. map-map (λ w. way (shown_way tags.way z w)) (λ f. way_fields (tile_corner tile) (sub_tile_bits f tile) f) (of_zoom tile.interval z (filter is_way fs)) ∙ shown-kind tags tile is_way (way_at tags tile) (λ f e. sym (listed-way tags tile f (way_is_no_poi f e))) z fs) (zooms tile.interval)
       ∙ sym (map-flat_map (listed tags tile) (λ z. of_zoom tile.interval z (filter is_way fs)) (zooms tile.interval))
 
-  shown-levels : shown_levels tags tile.interval (written_levels tile fs) ≡ map (listed tags tile) (in_order tile.interval fs)
-  unfolding shown_levels in_order
+  shown-levels : shown_levels tags tile.interval (written_levels tile fs) ≡ map (listed tags tile) (in_tile_order tile.interval fs)
+  unfolding shown_levels in_tile_order
   shown-levels = (λ i. pois-shown i ++ ways-shown i) ∙ sym (map-append (listed tags tile) (by_zoom tile.interval (filter is_poi fs)) (by_zoom tile.interval (filter is_way fs)))
 
 -- what is written of members in order tells their records
-pub levels-shown : (tags : TagLists) (tile : TilePlace) (fs : List Feature) → fs ≡ in_order tile.interval fs → shown_levels tags tile.interval (written_levels tile fs) ≡ map (listed tags tile) fs
+pub levels-shown : (tags : TagLists) (tile : TilePlace) (fs : List Feature) → fs ≡ in_tile_order tile.interval fs → shown_levels tags tile.interval (written_levels tile fs) ≡ map (listed tags tile) fs
 levels-shown tags tile fs e = shown-levels tags tile fs ∙ ap (map (listed tags tile)) (sym e)
 
 -- the bytes of members in order: the zoom table, the first-way offset, the POIs, the ways
-pub tile_bytes-flat : (tile : TilePlace) (f : Feature) (fs : List Feature) → f ∷ fs ≡ in_order tile.interval (f ∷ fs)
-    → tile_bytes tile (f ∷ fs) ≡ flat_map (λ zoom. vbe_unsigned (count_by (λ g. effective_zoom tile.interval g.zoom == zoom) (filter is_poi (f ∷ fs))) ++ vbe_unsigned (count_by (λ g. effective_zoom tile.interval g.zoom == zoom) (filter is_way (f ∷ fs)))) (zooms tile.interval)
+pub tile_bytes-flat : (tile : TilePlace) (f : Feature) (fs : List Feature) → f ∷ fs ≡ in_tile_order tile.interval (f ∷ fs)
+    → tile_bytes tile (f ∷ fs) ≡ flat_map (λ zoom. vbe_unsigned (count_by (λ g. raised_zoom tile.interval g.zoom == zoom) (filter is_poi (f ∷ fs))) ++ vbe_unsigned (count_by (λ g. raised_zoom tile.interval g.zoom == zoom) (filter is_way (f ∷ fs)))) (zooms tile.interval)
     ++ sized (flat_map (poi_bytes (tile_corner tile)) (filter is_poi (f ∷ fs)))
     ++ flat_map (λ g. way_bytes (tile_corner tile) (sub_tile_bits g tile) g) (filter is_way (f ∷ fs))
 unfolding tile_bytes written_levels level
@@ -270,11 +273,11 @@ flat_map_range f g (suc n) a e = λ i. e a (omega arith) (omega arith) i ++ flat
 
 module _ (interval : Interval) (xs : List Feature) (z : ℕ) where
   same : ℕ → Feature → Bool
-  same k f = effective_zoom interval f.zoom == k
+  same k f = raised_zoom interval f.zoom == k
 
   apart : (k : ℕ) → (z ≡ k → ⊥) → (f : Feature) → same k f ≡ true → same z f ≡ false
   unfolding same
-  apart k differ f e = ne_eqb (effective_zoom interval f.zoom) z (λ h. differ (sym h ∙ eqb-true (effective_zoom interval f.zoom) k e))
+  apart k differ f e = ne_eqb (raised_zoom interval f.zoom) z (λ h. differ (sym h ∙ eqb-true (raised_zoom interval f.zoom) k e))
 
   miss : (n a : ℕ) → z < a → flat_map (λ k. of_zoom interval z (of_zoom interval k xs)) (range_with_len a n) ≡ []
   unfolding same
@@ -295,15 +298,15 @@ module _ (interval : Interval) (xs : List Feature) (z : ℕ) where
 by_zoom-idem : (interval : Interval) (xs : List Feature) → by_zoom interval (by_zoom interval xs) ≡ by_zoom interval xs
 by_zoom-idem interval xs =
     flat_map_range (λ z. of_zoom interval z (by_zoom interval xs)) (λ z. of_zoom interval z xs) (suc interval.max - interval.min) interval.min
-    (λ z low high. filter-flat_map (λ f. effective_zoom interval f.zoom == z) (λ k. of_zoom interval k xs) (zooms interval) ∙ pick interval xs z (suc interval.max - interval.min) interval.min low high)
+    (λ z low high. filter-flat_map (λ f. raised_zoom interval f.zoom == z) (λ k. of_zoom interval k xs) (zooms interval) ∙ pick interval xs z (suc interval.max - interval.min) interval.min low high)
 
-pub in_order-idem : (interval : Interval) (fs : List Feature) → in_order interval (in_order interval fs) ≡ in_order interval fs
-unfolding in_order
-in_order-idem interval fs = λ i. (ap (by_zoom interval) (pois-in_order interval fs) ∙ by_zoom-idem interval (filter is_poi fs)) i ++ (ap (by_zoom interval) (ways-in_order interval fs) ∙ by_zoom-idem interval (filter is_way fs)) i
+pub in_order-idem : (interval : Interval) (fs : List Feature) → in_tile_order interval (in_tile_order interval fs) ≡ in_tile_order interval fs
+unfolding in_tile_order
+in_order-idem interval fs = λ i. (ap (by_zoom interval) (pois-in_tile_order interval fs) ∙ by_zoom-idem interval (filter is_poi fs)) i ++ (ap (by_zoom interval) (ways-in_tile_order interval fs) ∙ by_zoom-idem interval (filter is_way fs)) i
 
 -- the members of a tile stand in order
-pub members-in_order : (features : List Feature) (tile : TilePlace) → members features tile ≡ in_order tile.interval (members features tile)
+pub members-in_tile_order : (features : List Feature) (tile : TilePlace) → members features tile ≡ in_tile_order tile.interval (members features tile)
 unfolding members
-members-in_order features tile = sym (in_order-idem tile.interval (in_tile tile features))
+members-in_tile_order features tile = sym (in_order-idem tile.interval (in_tile tile features))
 
-pub ruleset level_laws = (tile_bytes-flat, levels-shown, members-in_order)
+pub ruleset level_laws = (tile_bytes-flat, levels-shown, members-in_tile_order)

@@ -3,9 +3,10 @@ use Rattle.std.proofs.Common.{◌≡◌, ℕ, List, [], ◌∷◌, ◌+◌, leng
 use Rattle.std.specs.Prelude.{Ok, Err, slice_range}
 use Rattle.mf_base.specs.Steps.{◌>>=◌, told_as}
 use Rattle.map_model.specs.HeaderReading.{Header, read_header}
-use Rattle.map_model.specs.TileReading.{TileKind, read_tile_from, read_tile}
+use Rattle.map_model.specs.TileReading.{tile_fault_at, read_tile_from, read_tile}
+use Rattle.map_model.specs.declared.fault.TileKind.{TileKind}
 use Rattle.map_model.specs.Listing.{ShowFault, Band, IndexEntry, band_of, index_entry_at, tile_end, show_tile, show, listing}
-use Rattle.map_model.specs.Samples.{world_corner, world_tile, settings_to, degree_box, bench_tags, bench_map, empty_map, listed_bench, tile_refused}
+use Rattle.map_model.specs.Samples.{world_corner, world_tile, settings_to, degree_box, bench_tags, bench_map, empty_map, listed_bench}
 use Rattle.map_model.proofs.World.{corner-world, tile_rect-zero}
 use Rattle.map_model.proofs.Compute.{compute}
 
@@ -44,11 +45,11 @@ pub past_sub_file : show (set bench_map 114 0x23) 0 0 0 ≡ Err (ShowFault.index
 unfolding compute
 past_sub_file = shown (set bench_map 114 0x23) 0 0 refl
 
-pub wrong_offset : show (set bench_map 114 0x06) 0 0 0 ≡ Err (ShowFault.tile (tile_refused 16 TileKind.offset))
+pub wrong_offset : show (set bench_map 114 0x06) 0 0 0 ≡ Err (ShowFault.tile (tile_fault_at 16 TileKind.Offset))
 unfolding compute
 wrong_offset = shown (set bench_map 114 0x06) 0 0 refl ∙ tile_shown (set bench_map 114 0x06) (record { water = false; offset = 6 }) refl
 
-pub bad_way_offset : show (set bench_map 131 0x0D) 0 0 0 ≡ Err (ShowFault.tile (tile_refused 16 TileKind.offset))
+pub bad_way_offset : show (set bench_map 131 0x0D) 0 0 0 ≡ Err (ShowFault.tile (tile_fault_at 16 TileKind.Offset))
 unfolding compute
 bad_way_offset = shown (set bench_map 131 0x0D) 0 0 refl ∙ tile_shown (set bench_map 131 0x0D) (record { water = false; offset = 5 }) refl
 

@@ -6,13 +6,14 @@ use Rattle.osm_model.specs.Input.{input_entities, known_box}
 use Rattle.osm_model.specs.Samples as extracts
 use Rattle.osm_model.proofs.Compute as input
 use Rattle.feature_model.specs.Features.{features}
-use Rattle.feature_model.specs.Weights.{LimitFault}
+use Rattle.feature_model.specs.declared.fault.LimitFault.{LimitFault}
 use Rattle.feature_model.specs.Samples.{benches, bench_with, paths, path, node_at, way_of, at, forests, forest_of, outer, member_of}
-use Rattle.map_model.specs.Tiles.{origin, members}
+use Rattle.map_model.specs.Rectangles.{origin}
+use Rattle.map_model.specs.Members.{members}
 use Rattle.map_model.specs.TileBytes.{tile_bytes}
 use Rattle.map_model.specs.SubFile.{sub_file_size}
-use Rattle.map_model.specs.Listed.{tag_lists}
-use Rattle.map_model.specs.MapFile.{all_contents, map_of_contents, map_of, map_file, tile_limit, sub_file_limit, sub_file_sizes, limit_fault, job_size, report}
+use Rattle.map_model.specs.TagLists.{tag_lists}
+use Rattle.map_model.specs.MapFile.{all_contents, map_of_contents, map_of, map_file, tile_limit_fault, sub_file_limit_fault, sub_file_sizes, limit_fault, job_size, report}
 use Rattle.map_model.specs.Samples.{bench, settings_to, degree_box, bench_tags, bench_map, empty_map, bench_numbers, bench_sub_file, world_tile, middle_tile, garden, garden_tile, content, five_benches, late_benches}
 use Rattle.map_model.proofs.World.{world_contents, world_members, world_bytes, bytes_from, world_limit, world_size, world_report}
 use Rattle.map_model.proofs.LatitudeRows.{corner_third}
@@ -108,11 +109,11 @@ pub ruleset report_rows = (bench_report, empty_report, late_report, five_report,
 
 -- ---- limits
 
-pub at_the_limit : tile_limit 66 (settings_to 7) degree_box (replicate 6 bench) ≡ None
+pub at_the_limit : tile_limit_fault 66 (settings_to 7) degree_box (replicate 6 bench) ≡ None
 unfolding compute
 at_the_limit = world_limit 66 7 degree_box (replicate 6 bench)
 
-pub over_the_limit : tile_limit 64 (settings_to 7) degree_box (replicate 6 bench) ≡ Some (LimitFault.tile 0 0 0 66)
+pub over_the_limit : tile_limit_fault 64 (settings_to 7) degree_box (replicate 6 bench) ≡ Some (LimitFault.Tile 0 0 0 66)
 unfolding compute
 over_the_limit = world_limit 64 7 degree_box (replicate 6 bench)
 
@@ -120,16 +121,16 @@ pub forest_and_tile : job_size (settings_to 7) forests degree_box (forest_of 3 3
 unfolding compute
 forest_and_tile = world_size 7 forests degree_box (forest_of 3 3 (outer 1 ∷ outer 2 ∷ outer 3 ∷ member_of 4 (codes "inner") ∷ []))
 
-pub then_tile : limit_fault 54 (settings_to 7) benches degree_box five_benches ≡ Some (LimitFault.tile 0 0 0 55)
+pub then_tile : limit_fault 54 (settings_to 7) benches degree_box five_benches ≡ Some (LimitFault.Tile 0 0 0 55)
 unfolding compute
-then_tile = ap (λ o. option_or o (sub_file_limit (sub_file_sizes (settings_to 7) degree_box (features benches five_benches)))) (world_limit 54 7 degree_box (features benches five_benches))
+then_tile = ap (λ o. option_or o (sub_file_limit_fault (sub_file_sizes (settings_to 7) degree_box (features benches five_benches)))) (world_limit 54 7 degree_box (features benches five_benches))
 
 pub no_limit : limit_fault 55 (settings_to 7) benches degree_box five_benches ≡ None
 unfolding compute
 no_limit =
     let shown = features benches five_benches in
-    ap (λ o. option_or o (sub_file_limit (sub_file_sizes (settings_to 7) degree_box shown))) (world_limit 55 7 degree_box shown)
-    ∙ ap (λ all. sub_file_limit (map sub_file_size all)) (world_contents 7 degree_box shown)
-    ∙ (λ i. sub_file_limit (sub_file_size (content false (world_bytes 7 bench (drop 1 shown) i) ∷ []) ∷ []))
+    ap (λ o. option_or o (sub_file_limit_fault (sub_file_sizes (settings_to 7) degree_box shown))) (world_limit 55 7 degree_box shown)
+    ∙ ap (λ all. sub_file_limit_fault (map sub_file_size all)) (world_contents 7 degree_box shown)
+    ∙ (λ i. sub_file_limit_fault (sub_file_size (content false (world_bytes 7 bench (drop 1 shown) i) ∷ []) ∷ []))
 
 pub ruleset limit_rows = (at_the_limit, over_the_limit, forest_and_tile, then_tile, no_limit)

@@ -13,10 +13,10 @@ use Rattle.mf_base.specs.Ranges.{is_signed_32}
 use Rattle.feature_model.specs.Features.{Block}
 use Rattle.feature_model.specs.Inside.{Ring}
 use Rattle.mf_base.proofs.SignLaws.{nat_abs-neg, plus_difference}
-use Rattle.map_model.specs.Tiles.{origin}
+use Rattle.map_model.specs.Rectangles.{origin}
 use Rattle.map_model.specs.Layout.{step, step_bytes, steps_from, ring_steps, coordinate_bytes, ring_bytes, block_bytes}
 use Rattle.map_model.specs.Reader.{Read, times}
-use Rattle.map_model.specs.TileReading.{number, signed, count_from, text_at, ranged, place_from, moved, places_after, ring_at, block_at, IsText, IsInRange, IsRing, IsBlock}
+use Rattle.map_model.specs.TileReading.{number, signed, count_from, tile_text_at, ranged, place_from, moved, places_after, ring_at, block_at, IsText, IsPlaceOf32Bits, IsToldRing, IsToldBlock}
 
 -- a reader reads x from these bytes, whatever follows them
 unfoldable pub Again : {Kind X : Type 0} → (List ℕ → Read Kind X) → List ℕ → X → Type 0
@@ -34,10 +34,10 @@ pub count_from-again : (few n : ℕ) → few ≤ n → n < 2 ^ 63 → Again (cou
 unfolding Again count_from
 count_from-again few n enough fits rest = rw (number-again n fits rest, le-leb few n enough) refl
 
-pub text_at-again : (text : List ℕ) → IsText text → Again text_at (string text) text
-unfolding Again text_at string
+pub text_at-again : (text : List ℕ) → IsText text → Again tile_text_at (string text) text
+unfolding Again tile_text_at string
 text_at-again text h rest =
-    ap text_at (append_assoc (vbe_unsigned (length text)) text rest)
+    ap tile_text_at (append_assoc (vbe_unsigned (length text)) text rest)
     ∙ rw (
       number-again (length text) h.0 (text ++ rest),
       take_at text rest (length text) refl,
@@ -80,7 +80,7 @@ pub ranged-again : (base z : ℤ) → is_signed_32 base ≡ true → is_signed_3
 unfolding Again ranged
 ranged-again base z hb hz rest = rw (signed-again (z -ℤ base) (nat_abs-step base z hb hz) rest, plus_difference base z, hz) refl
 
-pub place_from-again : (base p : Place) → IsInRange base → IsInRange p → Again (place_from base) (step_bytes (step base p)) p
+pub place_from-again : (base p : Place) → IsPlaceOf32Bits base → IsPlaceOf32Bits p → Again (place_from base) (step_bytes (step base p)) p
 unfolding Again place_from
 place_from-again base p hb hp rest =
     ap (place_from base) (append_assoc (vbe_signed (p.lat -ℤ base.lat)) (vbe_signed (p.lon -ℤ base.lon)) rest)
@@ -108,7 +108,7 @@ near a b ha hb =
     let lb = nat_abs-in_32 b hb in
     omega (arith, le, neg, la, lb)
 
-step-step : (a b : Place) → IsInRange a → IsInRange b → IsStep (step a b)
+step-step : (a b : Place) → IsPlaceOf32Bits a → IsPlaceOf32Bits b → IsStep (step a b)
 step-step a b ha hb = record { lat = near a.lat b.lat ha.0 hb.0; lon = near a.lon b.lon ha.1 hb.1 }
 
 second_step : (l d : ℤ) → nat_abs l ≤ 2 ^ 32 → nat_abs d ≤ 2 ^ 32 → nat_abs (d -ℤ l) < 2 ^ 63
@@ -120,7 +120,7 @@ second_step l d hl hd =
 forth : (b l z : ℤ) → b +ℤ l +ℤ (z -ℤ b -ℤ l) ≡ z
 forth b l z = +ℤ_assoc b l (z -ℤ b -ℤ l) ∙ ap (λ k. b +ℤ k) (plus_difference l (z -ℤ b)) ∙ plus_difference b z
 
-place_from-twice : (before last p : Place) → IsInRange before → IsStep last → IsInRange p → Again (place_from (moved before last)) (step_bytes (step last (step before p))) p
+place_from-twice : (before last p : Place) → IsPlaceOf32Bits before → IsStep last → IsPlaceOf32Bits p → Again (place_from (moved before last)) (step_bytes (step last (step before p))) p
 unfolding Again place_from
 place_from-twice before last p hb hl hp rest =
     ap (place_from (moved before last)) (append_assoc (vbe_signed (p.lat -ℤ before.lat -ℤ last.lat)) (vbe_signed (p.lon -ℤ before.lon -ℤ last.lon)) rest)
@@ -129,14 +129,14 @@ place_from-twice before last p hb hl hp rest =
       ranged-by (before.lon +ℤ last.lon) (p.lon -ℤ before.lon -ℤ last.lon) p.lon (forth before.lon last.lon p.lon) (second_step last.lon (p.lon -ℤ before.lon) hl.lon (near before.lon p.lon hb.1 hp.1)) hp.1 rest,
     ) refl
 
-single_after : (ps : Ring) (before last : Place) → IsInRange before → AllByRecursion IsInRange ps → Again (places_after false (length ps) before last) (flat_map step_bytes (steps_from before ps)) ps
+single_after : (ps : Ring) (before last : Place) → IsPlaceOf32Bits before → AllByRecursion IsPlaceOf32Bits ps → Again (places_after false (length ps) before last) (flat_map step_bytes (steps_from before ps)) ps
 unfolding Again places_after
 single_after [] before last hb h rest = refl
 single_after (p ∷ ps) before last hb h rest =
     ap (places_after false (suc (length ps)) before last) (append_assoc (step_bytes (step before p)) (flat_map step_bytes (steps_from p ps)) rest)
     ∙ rw (place_from-again before p hb h.0 (flat_map step_bytes (steps_from p ps) ++ rest), single_after ps p (step before p) h.0 h.1 rest) refl
 
-double_after : (ps : Ring) (before last : Place) → IsInRange before → IsStep last → AllByRecursion IsInRange ps → Again (places_after true (length ps) before last) (flat_map step_bytes (steps_from last (steps_from before ps))) ps
+double_after : (ps : Ring) (before last : Place) → IsPlaceOf32Bits before → IsStep last → AllByRecursion IsPlaceOf32Bits ps → Again (places_after true (length ps) before last) (flat_map step_bytes (steps_from last (steps_from before ps))) ps
 unfolding Again places_after
 double_after [] before last hb hl h rest = refl
 double_after (p ∷ ps) before last hb hl h rest =
@@ -153,12 +153,12 @@ unfolding coordinate_bytes ring_steps after_first
 coordinates-split corner true first ps = refl
 coordinates-split corner false first ps = refl
 
-places_after-again : (double : Bool) (ps : Ring) (first : Place) → IsInRange first → AllByRecursion IsInRange ps → Again (places_after double (length ps) first origin) (after_first double first ps) ps
+places_after-again : (double : Bool) (ps : Ring) (first : Place) → IsPlaceOf32Bits first → AllByRecursion IsPlaceOf32Bits ps → Again (places_after double (length ps) first origin) (after_first double first ps) ps
 unfolding Again after_first
 places_after-again true ps first hf h = double_after ps first origin hf origin-step h
 places_after-again false ps first hf h = single_after ps first origin hf h
 
-pub ring_at-again : (corner : Place) (double : Bool) (ring : Ring) → IsInRange corner → IsRing ring → Again (ring_at corner double) (ring_bytes corner double ring) ring
+pub ring_at-again : (corner : Place) (double : Bool) (ring : Ring) → IsPlaceOf32Bits corner → IsToldRing ring → Again (ring_at corner double) (ring_bytes corner double ring) ring
 unfolding Again ring_at ring_bytes
 ring_at-again corner double [] hc h rest = absurd (let two = h.0 in omega (arith, two))
 ring_at-again corner double (first ∷ ps) hc h rest =
@@ -178,11 +178,11 @@ times-again read bytes Fits again (x ∷ xs) h rest =
     ap (times (suc (length xs)) read) (append_assoc (bytes x) (flat_map bytes xs) rest)
     ∙ rw (again x h.0 (flat_map bytes xs ++ rest), times-again read bytes Fits again xs h.1 rest) refl
 
-pub block_at-again : (corner : Place) (double : Bool) (rings : Block) → IsInRange corner → IsBlock rings → Again (block_at corner double) (block_bytes corner double rings) rings
+pub block_at-again : (corner : Place) (double : Bool) (rings : Block) → IsPlaceOf32Bits corner → IsToldBlock rings → Again (block_at corner double) (block_bytes corner double rings) rings
 unfolding Again block_at block_bytes
 block_at-again corner double rings hc h rest =
     ap (block_at corner double) (append_assoc (vbe_unsigned (length rings)) (flat_map (ring_bytes corner double) rings) rest)
     ∙ rw (
       count_from-again 1 (length rings) h.0 h.1 (flat_map (ring_bytes corner double) rings ++ rest),
-      times-again (ring_at corner double) (ring_bytes corner double) IsRing (λ ring hr. ring_at-again corner double ring hc hr) rings h.2 rest,
+      times-again (ring_at corner double) (ring_bytes corner double) IsToldRing (λ ring hr. ring_at-again corner double ring hc hr) rings h.2 rest,
     ) refl

@@ -13,10 +13,10 @@ use Rattle.mf_base.specs.Ranges.{is_signed_32}
 use Rattle.mf_base.proofs.StepLaws.{bind_ok, require_ok, told_ok, ok_is}
 use Rattle.mf_base.proofs.NumberLemmas.{vbe_unsigned-only, unsigned_front-found, signed_front-found, vbe_signed-only}
 use Rattle.feature_model.specs.Inside.{Ring}
-use Rattle.map_model.specs.Tiles.{origin}
+use Rattle.map_model.specs.Rectangles.{origin}
 use Rattle.map_model.specs.Layout.{step, step_bytes, steps_from, ring_bytes, block_bytes}
 use Rattle.map_model.specs.Reader.{with_rest}
-use Rattle.map_model.specs.TileReading.{number, signed, count_from, text_at, ranged, place_from, moved, places_after, ring_at, block_at, IsText, IsInRange, IsRing, IsBlock}
+use Rattle.map_model.specs.TileReading.{number, signed, count_from, tile_text_at, ranged, place_from, moved, places_after, ring_at, block_at, IsText, IsPlaceOf32Bits, IsToldRing, IsToldBlock}
 use Rattle.map_model.proofs.ReaderFound.{Takes, IsFound, Finds, nothing, taken, then, with_rest_ok, front, times-found}
 use Rattle.map_model.proofs.PlacesAgain.{after_first, coordinates-split}
 
@@ -54,8 +54,8 @@ text_found bytes n front fits whole good =
     let told = subst (λ k. Takes bytes (vbe_unsigned k) n.1) (sym len) front in
     (then told (taken n.0 n.1 front.behind), (rw len fits, good))
 
-pub text_at-found : Finds text_at string IsText
-unfolding text_at
+pub text_at-found : Finds tile_text_at string IsText
+unfolding tile_text_at
 text_at-found bytes r small e =
     let n = bind_ok _ _ r e in
     let whole = bind_ok _ _ r n.2 in
@@ -82,14 +82,14 @@ ranged-found base bytes r small e =
     subst (IsFound (λ z. vbe_signed (z -ℤ base)) IsSigned32 bytes) (ok_is (base +ℤ d.0.0, d.0.1) r fits.2)
     (subst (λ z. Takes bytes (vbe_signed z) d.0.1) (sym (added base d.0.0)) found.0, require_ok _ _ _ fits.1)
 
-pub place_from-found : (base : Place) → Finds (place_from base) (λ p. step_bytes (step base p)) IsInRange
+pub place_from-found : (base : Place) → Finds (place_from base) (λ p. step_bytes (step base p)) IsPlaceOf32Bits
 unfolding place_from
 place_from-found base bytes r small e =
     let lat = bind_ok _ _ r e in
     let lon = bind_ok _ _ r lat.2 in
     let a = ranged-found base.lat bytes lat.0 small lat.1 in
     let b = ranged-found base.lon lat.0.1 lon.0 a.0.behind lon.1 in
-    subst (IsFound (λ p. step_bytes (step base p)) IsInRange bytes) (ok_is (record { lat = lat.0.0; lon = lon.0.0 }, lon.0.1) r lon.2) (then a.0 b.0, (a.1, b.1))
+    subst (IsFound (λ p. step_bytes (step base p)) IsPlaceOf32Bits bytes) (ok_is (record { lat = lat.0.0; lon = lon.0.0 }, lon.0.1) r lon.2) (then a.0 b.0, (a.1, b.1))
 
 -- ---- rings
 
@@ -102,7 +102,7 @@ step-moved before last p i = record { lat = less_both before.lat last.lat p.lat 
 
 -- places behind one, the bytes that tell them, and how many they are
 abbrev pub AreSoMany : ℕ → Ring → Type 0
-AreSoMany n ps = (length ps ≡ n) × AllByRecursion IsInRange ps
+AreSoMany n ps = (length ps ≡ n) × AllByRecursion IsPlaceOf32Bits ps
 
 single_found : (n : ℕ) (before last : Place) → Finds (places_after false n before last) (λ ps. flat_map step_bytes (steps_from before ps)) (AreSoMany n)
 unfolding places_after
@@ -132,7 +132,7 @@ unfolding after_first
 places_after-found true n first bytes r small e = double_found n first origin bytes r small e
 places_after-found false n first bytes r small e = single_found n first origin bytes r small e
 
-pub ring_at-found : (corner : Place) (double : Bool) → Finds (ring_at corner double) (ring_bytes corner double) IsRing
+pub ring_at-found : (corner : Place) (double : Bool) → Finds (ring_at corner double) (ring_bytes corner double) IsToldRing
 unfolding ring_at ring_bytes
 ring_at-found corner double bytes r small e =
     let n = bind_ok _ _ r e in
@@ -146,13 +146,13 @@ ring_at-found corner double bytes r small e =
     let many : length ring ≡ n.0.0 = omega (arith, two, ps.1.0) in
     let told = subst (λ k. Takes bytes (vbe_unsigned k) n.0.1) (sym many) count.0 in
     let places = subst (λ text. Takes n.0.1 text others.0.1) (sym (coordinates-split corner double first.0.0 others.0.0)) (then p.0 ps.0) in
-    subst (IsFound (ring_bytes corner double) IsRing bytes) (ok_is (ring, others.0.1) r others.2) (then told places, (rw many two, rw many count.1.1, (p.1, ps.1.1)))
+    subst (IsFound (ring_bytes corner double) IsToldRing bytes) (ok_is (ring, others.0.1) r others.2) (then told places, (rw many two, rw many count.1.1, (p.1, ps.1.1)))
 
-pub block_at-found : (corner : Place) (double : Bool) → Finds (block_at corner double) (block_bytes corner double) IsBlock
+pub block_at-found : (corner : Place) (double : Bool) → Finds (block_at corner double) (block_bytes corner double) IsToldBlock
 unfolding block_at block_bytes
 block_at-found corner double bytes r small e =
     let n = bind_ok _ _ r e in
     let count = count_from-found 1 bytes n.0 small n.1 in
-    let rings = times-found (ring_at corner double) (ring_bytes corner double) IsRing (ring_at-found corner double) n.0.0 n.0.1 r count.0.behind n.2 in
+    let rings = times-found (ring_at corner double) (ring_bytes corner double) IsToldRing (ring_at-found corner double) n.0.0 n.0.1 r count.0.behind n.2 in
     let told = subst (λ k. Takes bytes (vbe_unsigned k) n.0.1) (sym rings.1.0) count.0 in
     (then told rings.0, (rw rings.1.0 count.1.0, rw rings.1.0 count.1.1, rings.1.1))

@@ -11,7 +11,7 @@ use Rattle.mf_base.proofs.ByteLaws.{take-bytes, drop-bytes}
 use Rattle.mf_base.proofs.BigBytes.{big_bytes-big_number}
 use Rattle.mf_base.proofs.StepLaws.{err_is_no_ok, bind_ok, chosen, ok_is}
 use Rattle.map_model.specs.Layout.{optional}
-use Rattle.map_model.specs.Reader.{Stop, placed, Read, stop, with_rest, fixed, fixed_number, times, each, where_set}
+use Rattle.map_model.specs.Reader.{Stop, with_place, Read, stop, with_rest, fixed, fixed_number, times, read_each, where_set}
 
 -- the bytes are this text, and then the rest, which is bytes too
 pub record Takes (bytes text rest : List ℕ) : Type 0 where
@@ -54,9 +54,9 @@ pub none_left : (bytes text rest : List ℕ) → Takes bytes text rest → lengt
 none_left bytes text [] h e = h.spelt ∙ append-nil text
 none_left bytes text (b ∷ rest) h e = absurd (omega (arith, e))
 
-pub placed_ok : {Kind X : Type 0} (total : ℕ) (r : Result X (Stop Kind)) (x : X) → placed total r ≡ Ok x → r ≡ Ok x
-placed_ok total (Ok y) x e = cc
-placed_ok total (Err f) x e = absurd (err_is_no_ok _ x e)
+pub placed_ok : {Kind Fault X : Type 0} (fault : ℕ → Kind → Fault) (total : ℕ) (r : Result X (Stop Kind)) (x : X) → with_place fault total r ≡ Ok x → r ≡ Ok x
+placed_ok fault total (Ok y) x e = cc
+placed_ok fault total (Err f) x e = absurd (err_is_no_ok _ x e)
 
 -- the front of so many bytes is this text
 pub front : (size : ℕ) (bytes text rest : List ℕ) → IsBytes bytes → take size bytes ≡ text → drop size bytes ≡ rest → Takes bytes text rest
@@ -108,9 +108,9 @@ times-found read spell Fits finds (suc n) bytes r small e =
     subst (IsFound (flat_map spell) (λ xs. (length xs ≡ suc n) × AllByRecursion Fits xs) bytes) (ok_is (first.0.0 ∷ others.0.0, others.0.1) r others.2)
     (then x.0 xs.0, (ap suc xs.1.0, (x.1, xs.1.1)))
 
--- one for each element of a list
-pub each-found : {Kind C X : Type 0} (read : C → List ℕ → Read Kind X) (spell : X → List ℕ) (Fits : C → X → Type 0) → ((c : C) → Finds (read c) spell (Fits c)) → (cs : List C) → Finds (each read cs) (flat_map spell) (AllZip Fits cs)
-unfolding each
+-- one for read_each element of a list
+pub each-found : {Kind C X : Type 0} (read : C → List ℕ → Read Kind X) (spell : X → List ℕ) (Fits : C → X → Type 0) → ((c : C) → Finds (read c) spell (Fits c)) → (cs : List C) → Finds (read_each read cs) (flat_map spell) (AllZip Fits cs)
+unfolding read_each
 each-found read spell Fits finds [] bytes r small e = subst (IsFound (flat_map spell) (AllZip Fits []) bytes) (ok_is ([], bytes) r e) (nothing bytes small, tt)
 each-found read spell Fits finds (c ∷ cs) bytes r small e =
     let first = bind_ok _ _ r e in

@@ -21,13 +21,16 @@ use Rattle.feature_model.specs.Mapping.{IsOfKind, KeptValue, ValueKind}
 use Rattle.feature_model.specs.Choice.{Kept}
 use Rattle.map_model.specs.Numbers.{above_zero}
 use Rattle.map_model.specs.Layout.{PoiFields, WayFields, Level, optional, flag, layer_byte, value_bytes, tag_bytes, step, step_bytes, poi_flags, poi_fields_bytes, way_flags, first_of_blocks, way_body_bytes, way_fields_bytes, sized, ring_bytes, block_bytes, level_count_bytes, levels_bytes}
-use Rattle.map_model.specs.Tiles.{zooms, in_order}
+use Rattle.map_model.specs.Intervals.{zooms}
+use Rattle.map_model.specs.Members.{in_tile_order}
 use Rattle.map_model.specs.TileBytes.{tile_corner, tile_bytes, written_level, written_levels}
 use Rattle.map_model.proofs.CornerLemmas.{tile_corner-in_range}
 use Rattle.map_model.proofs.LevelLemmas.{levels-shown}
-use Rattle.map_model.specs.Listed.{TagLists, Listed, listed, shown_levels, tag_kind, tag_at}
-use Rattle.map_model.specs.Reader.{Read, fixed_number, times, each, where_set}
-use Rattle.map_model.specs.TileReading.{TileKind, number, text_at, ranged, layer_at, id_at, value_at, kept_at, tags_at, has_flag, poi_at, block_at, block_count_at, blocks_at, first_place_at, two_signed, label_and_blocks_at, way_body_at, way_at, counts_at, level_of, levels_at, read_tile_from, read_tile, ReadsTile, IsLevel, SpellsLevels, IsText, IsInRange, IsKeptOf, IsPoi, IsBlock, IsWay}
+use Rattle.map_model.specs.Listed.{Listed, listed, shown_levels}
+use Rattle.map_model.specs.TagLists.{TagLists, tag_kind, tag_at}
+use Rattle.map_model.specs.Reader.{Read, fixed_number, times, read_each, where_set}
+use Rattle.map_model.specs.TileReading.{number, tile_text_at, ranged, layer_at, id_at, value_at, kept_at, tags_at, has_flag, poi_at, block_at, block_count_at, blocks_at, first_place_at, two_signed, label_and_blocks_at, way_body_at, way_at, counts_at, level_of, levels_at, read_tile_from, read_tile, ReadsTile, IsLevel, SpellsLevels, IsText, IsPlaceOf32Bits, IsKeptOf, IsPoi, IsToldBlock, IsWay}
+use Rattle.map_model.specs.declared.fault.TileKind.{TileKind}
 use Rattle.mf_base.proofs.ByteLaws.{length-big_endian}
 use Rattle.map_model.proofs.PlacesAgain.{Again, number-again, signed-again, count_from-again, text_at-again, ranged-again, place_from-again, block_at-again, times-again, and-true, after_first, coordinates-split, nat_abs-step}
 
@@ -77,7 +80,7 @@ layer_at-again layer count rest h few =
     let bound = c.few in
     let high : layer_byte layer count / 16 ≡ c.code = omega (arith, is, few) in
     let low : layer_byte layer count % 16 ≡ count = omega (arith, is, few) in
-    rw (one_byte-again TileKind.short (layer_byte layer count) rest, high, low, le-leb c.code 10 bound, c.shown) refl
+    rw (one_byte-again TileKind.Short (layer_byte layer count) rest, high, low, le-leb c.code 10 bound, c.shown) refl
 
 -- ---- values and tags
 
@@ -86,22 +89,22 @@ unfolding Again
 value_at-again ValueKind.plain KeptValue.plain h rest = refl
 value_at-again ValueKind.byte (KeptValue.byte (pos n)) h rest =
     let le = leb-true n 127 h in
-    rw (fixed_number-again TileKind.short 1 n (omega (arith, le)) rest, to_z-of_z w8 (pos n) (record { sfits = omega (arith, le) })) refl
+    rw (fixed_number-again TileKind.Short 1 n (omega (arith, le)) rest, to_z-of_z w8 (pos n) (record { sfits = omega (arith, le) })) refl
 value_at-again ValueKind.byte (KeptValue.byte (negsuc n)) h rest =
     let le = leb-true n 127 (and-true (leb n 127) h) in
-    rw (fixed_number-again TileKind.short 1 (256 - suc n) (omega (arith, le)) rest, to_z-of_z w8 (negsuc n) (record { sfits = omega (arith, le) })) refl
+    rw (fixed_number-again TileKind.Short 1 (256 - suc n) (omega (arith, le)) rest, to_z-of_z w8 (negsuc n) (record { sfits = omega (arith, le) })) refl
 value_at-again ValueKind.short (KeptValue.short (pos n)) h rest =
     let le = leb-true n 32767 h in
-    rw (fixed_number-again TileKind.short 2 n (omega (arith, le)) rest, to_z-of_z w16 (pos n) (record { sfits = omega (arith, le) })) refl
+    rw (fixed_number-again TileKind.Short 2 n (omega (arith, le)) rest, to_z-of_z w16 (pos n) (record { sfits = omega (arith, le) })) refl
 value_at-again ValueKind.short (KeptValue.short (negsuc n)) h rest =
     let le = leb-true n 32767 (and-true (leb n 32767) h) in
-    rw (fixed_number-again TileKind.short 2 (65536 - suc n) (omega (arith, le)) rest, to_z-of_z w16 (negsuc n) (record { sfits = omega (arith, le) })) refl
+    rw (fixed_number-again TileKind.Short 2 (65536 - suc n) (omega (arith, le)) rest, to_z-of_z w16 (negsuc n) (record { sfits = omega (arith, le) })) refl
 value_at-again ValueKind.int (KeptValue.int (pos n)) h rest =
     let le = leb-true n 2147483647 h in
-    rw (fixed_number-again TileKind.short 4 n (omega (arith, le)) rest, to_z-of_z w32 (pos n) (record { sfits = omega (arith, le) })) refl
+    rw (fixed_number-again TileKind.Short 4 n (omega (arith, le)) rest, to_z-of_z w32 (pos n) (record { sfits = omega (arith, le) })) refl
 value_at-again ValueKind.int (KeptValue.int (negsuc n)) h rest =
     let le = leb-true n 2147483647 (and-true (leb n 2147483647) h) in
-    rw (fixed_number-again TileKind.short 4 (4294967296 - suc n) (omega (arith, le)) rest, to_z-of_z w32 (negsuc n) (record { sfits = omega (arith, le) })) refl
+    rw (fixed_number-again TileKind.Short 4 (4294967296 - suc n) (omega (arith, le)) rest, to_z-of_z w32 (negsuc n) (record { sfits = omega (arith, le) })) refl
 value_at-again ValueKind.text (KeptValue.text bytes) h rest = rw (text_at-again bytes h rest) refl
 value_at-again _ _ h rest = absurd h
 
@@ -116,11 +119,11 @@ ids-again tags (k ∷ kept) h rest =
     ap (times (suc (length kept)) (id_at tags)) (append_assoc (vbe_unsigned k.tag) (flat_map (λ k. vbe_unsigned k.tag) kept) rest)
     ∙ rw (id_at-again tags k.tag h.0.0 h.0.1 (flat_map (λ k. vbe_unsigned k.tag) kept ++ rest), ids-again tags kept h.1 rest) refl
 
-values-again : (tags : List (List ℕ)) (kept : List Kept) → AllByRecursion (IsKeptOf tags) kept → (rest : List ℕ) → each (kept_at tags) (map (λ k. k.tag) kept) (flat_map (λ k. value_bytes k.value) kept ++ rest) ≡ Ok (kept, rest)
-unfolding each Again
+values-again : (tags : List (List ℕ)) (kept : List Kept) → AllByRecursion (IsKeptOf tags) kept → (rest : List ℕ) → read_each (kept_at tags) (map (λ k. k.tag) kept) (flat_map (λ k. value_bytes k.value) kept ++ rest) ≡ Ok (kept, rest)
+unfolding read_each Again
 values-again tags [] h rest = refl
 values-again tags (k ∷ kept) h rest =
-    ap (each (kept_at tags) (k.tag ∷ map (λ k. k.tag) kept)) (append_assoc (value_bytes k.value) (flat_map (λ k. value_bytes k.value) kept) rest)
+    ap (read_each (kept_at tags) (k.tag ∷ map (λ k. k.tag) kept)) (append_assoc (value_bytes k.value) (flat_map (λ k. value_bytes k.value) kept) rest)
     ∙ rw (value_at-again (tag_kind (tag_at tags k.tag)) k.value h.0.2 (flat_map (λ k. value_bytes k.value) kept ++ rest), values-again tags kept h.1 rest) refl
 
 pub tags_at-again : (tags : List (List ℕ)) (kept : List Kept) → AllByRecursion (IsKeptOf tags) kept → (rest : List ℕ)
@@ -191,7 +194,7 @@ after_layer-again names tags h rest = tags_at-again names tags h rest
 regroup : (s t : List ℕ) (f : ℕ) (n h e rest : List ℕ) → s ++ t ++ f ∷ n ++ h ++ e ++ rest ≡ s ++ (t ++ (f ∷ (n ++ (h ++ (e ++ rest)))))
 regroup s t f n h e rest = simp append_assoc refl
 
-pub poi_at-again : (names : List (List ℕ)) (corner : Place) (p : PoiFields) → IsInRange corner → IsPoi names p → Again (poi_at names corner) (poi_fields_bytes corner p) p
+pub poi_at-again : (names : List (List ℕ)) (corner : Place) (p : PoiFields) → IsPlaceOf32Bits corner → IsPoi names p → Again (poi_at names corner) (poi_fields_bytes corner p) p
 unfolding Again poi_at poi_fields_bytes
 poi_at-again names corner p hc h rest =
     let flags = poi_flag p h.other in
@@ -205,13 +208,13 @@ poi_at-again names corner p hc h rest =
       place_from-again corner p.place hc h.place (layer_byte p.layer (length p.tags) ∷ after_layer p.tags after_tags),
       layer_at-again p.layer (length p.tags) (after_layer p.tags after_tags) h.layer h.few,
       after_layer-again names p.tags h.kept after_tags,
-      one_byte-again TileKind.short (poi_flags p) after_flags,
+      one_byte-again TileKind.Short (poi_flags p) after_flags,
       flags.0,
       flags.1,
       flags.2,
       flags.3,
-      where_set-again text_at string IsText text_at-again p.name h.name after_name,
-      where_set-again text_at string IsText text_at-again p.house h.house after_house,
+      where_set-again tile_text_at string IsText text_at-again p.name h.name after_name,
+      where_set-again tile_text_at string IsText text_at-again p.house h.house after_house,
       where_set-again (ranged (pos 0)) vbe_signed (λ n. IsTrue (is_signed_32 n)) height-again p.height h.height rest,
     ) refl
 
@@ -251,14 +254,14 @@ unfolding count_bytes Again
 block_count-again true blocks single some few rest = count_from-again 1 (length blocks) some few rest
 block_count-again false blocks single some few rest = ap (λ n. Ok (n, rest)) (sym (single refl))
 
-blocks_again : (corner : Place) (counted double : Bool) (blocks : List Block) → IsInRange corner → (counted ≡ false → length blocks ≡ 1) → 1 ≤ length blocks → length blocks < 2 ^ 63 → AllByRecursion IsBlock blocks → (rest : List ℕ)
+blocks_again : (corner : Place) (counted double : Bool) (blocks : List Block) → IsPlaceOf32Bits corner → (counted ≡ false → length blocks ≡ 1) → 1 ≤ length blocks → length blocks < 2 ^ 63 → AllByRecursion IsToldBlock blocks → (rest : List ℕ)
     → blocks_at corner counted double (count_bytes counted blocks ++ (flat_map (block_bytes corner double) blocks ++ rest)) ≡ Ok (blocks, rest)
 unfolding blocks_at Again
 blocks_again corner counted double blocks hc single some few h rest =
     rw (block_count-again counted blocks single some few (flat_map (block_bytes corner double) blocks ++ rest)) (all rest)
   where
     all : (rest : List ℕ) → times (length blocks) (block_at corner double) (flat_map (block_bytes corner double) blocks ++ rest) ≡ Ok (blocks, rest)
-    all rest = times-again (block_at corner double) (block_bytes corner double) IsBlock (λ rings hr. block_at-again corner double rings hc hr) blocks h rest
+    all rest = times-again (block_at corner double) (block_bytes corner double) IsToldBlock (λ rings hr. block_at-again corner double rings hc hr) blocks h rest
 
 -- a block begins with the number of its rings, and a ring with the number of its places and the first of them
 first_of_ring : (corner : Place) (double : Bool) (p : Place) (ps : Ring) (rest : List ℕ) → (after : List ℕ) × (ring_bytes corner double (p ∷ ps) ++ rest ≡ vbe_unsigned (suc (length ps)) ++ (step_bytes (step corner p) ++ after))
@@ -275,7 +278,7 @@ unfolding block_bytes
 first_of_block corner double ring rings rest = simp append_assoc refl
 
 -- the first place is found before anything after it is looked at
-pub first_place-again : (corner : Place) (counted double : Bool) (blocks : List Block) → IsInRange corner → (counted ≡ false → length blocks ≡ 1) → 1 ≤ length blocks → length blocks < 2 ^ 63 → AllByRecursion IsBlock blocks → (rest : List ℕ)
+pub first_place-again : (corner : Place) (counted double : Bool) (blocks : List Block) → IsPlaceOf32Bits corner → (counted ≡ false → length blocks ≡ 1) → 1 ≤ length blocks → length blocks < 2 ^ 63 → AllByRecursion IsToldBlock blocks → (rest : List ℕ)
     → (after : List ℕ) × (first_place_at corner counted (count_bytes counted blocks ++ (flat_map (block_bytes corner double) blocks ++ rest)) ≡ Ok (first_of_blocks blocks, after))
 unfolding first_place_at Again
 first_place-again corner counted double [] hc single some few h rest = absurd (omega (arith, some))
@@ -303,13 +306,13 @@ first_place-again corner counted double (((p ∷ ps) ∷ rings) ∷ blocks) hc s
           place_from-again corner p hc h.0.2.0.2.0 after,
         ) refl
 
-pub two_signed-again : (a p : Place) → IsInRange a → IsInRange p → Again two_signed (step_bytes (step a p)) (p.lat -ℤ a.lat, p.lon -ℤ a.lon)
+pub two_signed-again : (a p : Place) → IsPlaceOf32Bits a → IsPlaceOf32Bits p → Again two_signed (step_bytes (step a p)) (p.lat -ℤ a.lat, p.lon -ℤ a.lon)
 unfolding Again two_signed
 two_signed-again a p ha hp rest =
     ap two_signed (append_assoc (vbe_signed (p.lat -ℤ a.lat)) (vbe_signed (p.lon -ℤ a.lon)) rest)
     ∙ rw (signed-again (p.lat -ℤ a.lat) (nat_abs-step a.lat p.lat ha.0 hp.0) (vbe_signed (p.lon -ℤ a.lon) ++ rest), signed-again (p.lon -ℤ a.lon) (nat_abs-step a.lon p.lon ha.1 hp.1) rest) refl
 
-pub first_in_range : (blocks : List Block) → 1 ≤ length blocks → AllByRecursion IsBlock blocks → IsInRange (first_of_blocks blocks)
+pub first_in_range : (blocks : List Block) → 1 ≤ length blocks → AllByRecursion IsToldBlock blocks → IsPlaceOf32Bits (first_of_blocks blocks)
 first_in_range [] some h = absurd (omega (arith, some))
 first_in_range ([] ∷ blocks) some h = absurd (let one = h.0.0 in omega (arith, one))
 first_in_range (([] ∷ rings) ∷ blocks) some h = absurd (let two = h.0.2.0.0 in omega (arith, two))
@@ -319,7 +322,7 @@ label_bytes : List Block → Option Place → List ℕ
 label_bytes blocks label = optional (λ p. step_bytes (step (first_of_blocks blocks) p)) label
 
 label_and_blocks-again : (corner : Place) (flags : ℕ) (label : Option Place) (counted double : Bool) (blocks : List Block) → has_flag flags 0x10 ≡ is_some label → has_flag flags 0x08 ≡ counted → has_flag flags 0x04 ≡ double
-    → IsInRange corner → IfSome label IsInRange → (counted ≡ false → length blocks ≡ 1) → 1 ≤ length blocks → length blocks < 2 ^ 63 → AllByRecursion IsBlock blocks → (rest : List ℕ)
+    → IsPlaceOf32Bits corner → IfSome label IsPlaceOf32Bits → (counted ≡ false → length blocks ≡ 1) → 1 ≤ length blocks → length blocks < 2 ^ 63 → AllByRecursion IsToldBlock blocks → (rest : List ℕ)
     → label_and_blocks_at corner flags (label_bytes blocks label ++ (count_bytes counted blocks ++ (flat_map (block_bytes corner double) blocks ++ rest))) ≡ Ok ((label, blocks), rest)
 unfolding label_and_blocks_at label_bytes Again
 label_and_blocks-again corner flags None counted double blocks el ec ed hc hl single some few h rest =
@@ -337,7 +340,7 @@ regroup_eight b t m h r l c d rest = simp append_assoc refl
 regroup_way : (b t : List ℕ) (f : ℕ) (n h r l c d rest : List ℕ) → b ++ t ++ f ∷ n ++ h ++ r ++ l ++ c ++ d ++ rest ≡ b ++ (t ++ (f ∷ (n ++ (h ++ (r ++ (l ++ (c ++ (d ++ rest))))))))
 regroup_way b t f n h r l c d rest = regroup_eight b t (f ∷ n) h r l c d rest
 
-way_body_at-again : (names : List (List ℕ)) (corner : Place) (w : WayFields) → IsInRange corner → IsWay names w → Again (way_body_at names corner) (way_body_bytes corner w) w
+way_body_at-again : (names : List (List ℕ)) (corner : Place) (w : WayFields) → IsPlaceOf32Bits corner → IsWay names w → Again (way_body_at names corner) (way_body_bytes corner w) w
 unfolding Again way_body_at way_body_bytes label_bytes count_bytes
 way_body_at-again names corner w hc h rest =
     let flags = way_flag w h.other in
@@ -350,23 +353,23 @@ way_body_at-again names corner w hc h rest =
     ap (way_body_at names corner) (regroup_way (big_endian 2 w.bits) (tag_bytes w.layer w.tags) (way_flags w) (optional string w.name) (optional string w.house) (optional string w.reference) (label_bytes w.blocks w.label) (count_bytes w.counted w.blocks) (flat_map (block_bytes corner w.double) w.blocks) rest
     ∙ ap (λ t. big_endian 2 w.bits ++ t) (tag_bytes-split w.layer w.tags after_tags))
     ∙ rw (
-      fixed_number-again TileKind.short 2 w.bits h.bits tags,
+      fixed_number-again TileKind.Short 2 w.bits h.bits tags,
       layer_at-again w.layer (length w.tags) (after_layer w.tags after_tags) h.layer h.few,
       after_layer-again names w.tags h.kept after_tags,
-      one_byte-again TileKind.short (way_flags w) after_flags,
+      one_byte-again TileKind.Short (way_flags w) after_flags,
       flags.0,
       flags.1,
       flags.2,
-      where_set-again text_at string IsText text_at-again w.name h.name after_name,
-      where_set-again text_at string IsText text_at-again w.house h.house after_house,
-      where_set-again text_at string IsText text_at-again w.reference h.reference behind,
+      where_set-again tile_text_at string IsText text_at-again w.name h.name after_name,
+      where_set-again tile_text_at string IsText text_at-again w.house h.house after_house,
+      where_set-again tile_text_at string IsText text_at-again w.reference h.reference behind,
       label_and_blocks-again corner (way_flags w) w.label w.counted w.double w.blocks flags.3 flags.4 flags.5 hc h.label h.single h.counted.0 h.counted.1 h.blocks rest,
       flags.4,
       flags.5,
       flags.6,
     ) refl
 
-pub way_at-again : (names : List (List ℕ)) (corner : Place) (w : WayFields) → IsInRange corner → IsWay names w → length (way_body_bytes corner w) < 2 ^ 63 → Again (way_at names corner) (way_fields_bytes corner w) w
+pub way_at-again : (names : List (List ℕ)) (corner : Place) (w : WayFields) → IsPlaceOf32Bits corner → IsWay names w → length (way_body_bytes corner w) < 2 ^ 63 → Again (way_at names corner) (way_fields_bytes corner w) w
 unfolding Again way_at way_fields_bytes sized
 way_at-again names corner w hc h few rest =
     ap (way_at names corner) (append_assoc (vbe_unsigned (length (way_body_bytes corner w))) (way_body_bytes corner w) rest)
@@ -394,12 +397,12 @@ pois_bytes corner levels = flat_map (λ level. flat_map (poi_fields_bytes corner
 ways_bytes : Place → List Level → List ℕ
 ways_bytes corner levels = flat_map (λ level. flat_map (way_fields_bytes corner) level.ways) levels
 
-pois-again : (names : TagLists) (corner : Place) (levels : List Level) → IsInRange corner → AllByRecursion (IsLevel names) levels → (rest : List ℕ)
-    → each (λ c. times c.0 (poi_at names.poi corner)) (map counts_of levels) (pois_bytes corner levels ++ rest) ≡ Ok (map (λ l. l.pois) levels, rest)
-unfolding each counts_of pois_bytes Again
+pois-again : (names : TagLists) (corner : Place) (levels : List Level) → IsPlaceOf32Bits corner → AllByRecursion (IsLevel names) levels → (rest : List ℕ)
+    → read_each (λ c. times c.0 (poi_at names.poi corner)) (map counts_of levels) (pois_bytes corner levels ++ rest) ≡ Ok (map (λ l. l.pois) levels, rest)
+unfolding read_each counts_of pois_bytes Again
 pois-again names corner [] hc h rest = refl
 pois-again names corner (l ∷ levels) hc h rest =
-    ap (each (λ (c : ℕ × ℕ). times c.0 (poi_at names.poi corner)) (map counts_of (l ∷ levels))) (append_assoc (flat_map (poi_fields_bytes corner) l.pois) (pois_bytes corner levels) rest)
+    ap (read_each (λ (c : ℕ × ℕ). times c.0 (poi_at names.poi corner)) (map counts_of (l ∷ levels))) (append_assoc (flat_map (poi_fields_bytes corner) l.pois) (pois_bytes corner levels) rest)
     ∙ rw (times-again (poi_at names.poi corner) (poi_fields_bytes corner) (IsPoi names.poi) (λ p hp. poi_at-again names.poi corner p hc hp) l.pois h.0.pois (pois_bytes corner levels ++ rest), pois-again names corner levels hc h.1 rest) refl
 
 -- a way whose bytes can be told
@@ -415,14 +418,14 @@ small_ways names corner (w ∷ ws) h few =
     let b = length-append (vbe_unsigned (length (way_body_bytes corner w))) (way_body_bytes corner w) in
     (record { way = h.0; small = omega (arith, few, a, b) }, small_ways names corner ws h.1 (omega (arith, few, a)))
 
-ways-again : (names : TagLists) (corner : Place) (levels : List Level) → IsInRange corner → AllByRecursion (IsLevel names) levels → length (ways_bytes corner levels) < 2 ^ 63 → (rest : List ℕ)
-    → each (λ c. times c.1 (way_at names.way corner)) (map counts_of levels) (ways_bytes corner levels ++ rest) ≡ Ok (map (λ l. l.ways) levels, rest)
-unfolding each counts_of ways_bytes Again
+ways-again : (names : TagLists) (corner : Place) (levels : List Level) → IsPlaceOf32Bits corner → AllByRecursion (IsLevel names) levels → length (ways_bytes corner levels) < 2 ^ 63 → (rest : List ℕ)
+    → read_each (λ c. times c.1 (way_at names.way corner)) (map counts_of levels) (ways_bytes corner levels ++ rest) ≡ Ok (map (λ l. l.ways) levels, rest)
+unfolding read_each counts_of ways_bytes Again
 ways-again names corner [] hc h few rest = refl
 ways-again names corner (l ∷ levels) hc h few rest =
     let a = length-append (flat_map (way_fields_bytes corner) l.ways) (ways_bytes corner levels) in
     let small = small_ways names.way corner l.ways h.0.ways (omega (arith, few, a)) in
-    ap (each (λ (c : ℕ × ℕ). times c.1 (way_at names.way corner)) (map counts_of (l ∷ levels))) (append_assoc (flat_map (way_fields_bytes corner) l.ways) (ways_bytes corner levels) rest)
+    ap (read_each (λ (c : ℕ × ℕ). times c.1 (way_at names.way corner)) (map counts_of (l ∷ levels))) (append_assoc (flat_map (way_fields_bytes corner) l.ways) (ways_bytes corner levels) rest)
     ∙ rw (times-again (way_at names.way corner) (way_fields_bytes corner) (IsSmallWay names.way corner) (λ w hw. way_at-again names.way corner w hc hw.way hw.small) l.ways small (ways_bytes corner levels ++ rest), ways-again names corner levels hc h.1 (omega (arith, few, a)) rest) refl
 
 levels_of_parts : (levels : List Level) → map level_of (zip (map (λ l. l.pois) levels) (map (λ l. l.ways) levels)) ≡ levels
@@ -443,7 +446,7 @@ unfolding Again
 number-read n fits rest = number-again n fits rest
 
 -- what spells some levels is read as them
-pub levels_at-again : (names : TagLists) (interval : Interval) (corner : Place) (bytes : List ℕ) (levels : List Level) → IsInRange corner → SpellsLevels names interval corner bytes levels → levels_at names interval corner bytes ≡ Ok levels
+pub levels_at-again : (names : TagLists) (interval : Interval) (corner : Place) (bytes : List ℕ) (levels : List Level) → IsPlaceOf32Bits corner → SpellsLevels names interval corner bytes levels → levels_at names interval corner bytes ≡ Ok levels
 unfolding levels_at levels_parts
 levels_at-again names interval corner bytes levels hc h =
     let spelt = h.spelt ∙ levels_bytes-parts corner levels in
@@ -468,11 +471,11 @@ levels_at-again names interval corner bytes levels hc h =
     number_again : length (pois_bytes corner levels) < 2 ^ 63 → number (vbe_unsigned (length (pois_bytes corner levels)) ++ (pois_bytes corner levels ++ ways_bytes corner levels)) ≡ Ok (length (pois_bytes corner levels), pois_bytes corner levels ++ ways_bytes corner levels)
     number_again few = number-read (length (pois_bytes corner levels)) few (pois_bytes corner levels ++ ways_bytes corner levels)
 
-    last : length (ways_bytes corner levels) < 2 ^ 63 → each (λ c. times c.1 (way_at names.way corner)) (map counts_of levels) (ways_bytes corner levels) ≡ Ok (map (λ l. l.ways) levels, [])
-    last few = ap (each (λ (c : ℕ × ℕ). times c.1 (way_at names.way corner)) (map counts_of levels)) (sym (append-nil (ways_bytes corner levels))) ∙ ways-again names corner levels hc h.each few []
+    last : length (ways_bytes corner levels) < 2 ^ 63 → read_each (λ c. times c.1 (way_at names.way corner)) (map counts_of levels) (ways_bytes corner levels) ≡ Ok (map (λ l. l.ways) levels, [])
+    last few = ap (read_each (λ (c : ℕ × ℕ). times c.1 (way_at names.way corner)) (map counts_of levels)) (sym (append-nil (ways_bytes corner levels))) ∙ ways-again names corner levels hc h.each few []
 
 -- what spells some records is read as them
-pub read_tile-again : (names : TagLists) (tile : TilePlace) (bytes : List ℕ) (shown : List Listed) → IsInRange (tile_corner tile) → ReadsTile names tile bytes shown → read_tile names tile bytes ≡ Ok shown
+pub read_tile-again : (names : TagLists) (tile : TilePlace) (bytes : List ℕ) (shown : List Listed) → IsPlaceOf32Bits (tile_corner tile) → ReadsTile names tile bytes shown → read_tile names tile bytes ≡ Ok shown
 unfolding read_tile read_tile_from
 read_tile-again names tile [] shown hc h = ap Ok (sym h)
 read_tile-again names tile (b ∷ bytes) shown hc h = rw (levels_at-again names tile.interval (tile_corner tile) (b ∷ bytes) h.0 hc h.1, h.2) refl
@@ -487,7 +490,7 @@ not_empty names interval corner levels h =
     let some = length-vbe-positive 128 0 (length (pois_bytes corner levels)) (omega arith) in
     omega (arith, all, a, b, some)
 
-read_tile-spelt : (names : TagLists) (tile : TilePlace) (bytes : List ℕ) (levels : List Level) → IsInRange (tile_corner tile) → SpellsLevels names tile.interval (tile_corner tile) bytes levels → read_tile names tile bytes ≡ Ok (shown_levels names tile.interval levels)
+read_tile-spelt : (names : TagLists) (tile : TilePlace) (bytes : List ℕ) (levels : List Level) → IsPlaceOf32Bits (tile_corner tile) → SpellsLevels names tile.interval (tile_corner tile) bytes levels → read_tile names tile bytes ≡ Ok (shown_levels names tile.interval levels)
 unfolding read_tile read_tile_from
 read_tile-spelt names tile [] levels hc h = absurd (not_empty names tile.interval (tile_corner tile) levels h)
 read_tile-spelt names tile (b ∷ bytes) levels hc h = rw (levels_at-again names tile.interval (tile_corner tile) (b ∷ bytes) levels hc h) refl
@@ -500,7 +503,7 @@ unfolding written_levels
 written_levels-length tile fs = length-map (zooms tile.interval) (written_level (tile_corner tile) tile fs)
 
 -- a tile of members in order is read as what is listed of them
-pub reads_written : (names : TagLists) (tile : TilePlace) (f : Feature) (fs : List Feature) → tile.x < 2 ^ tile.interval.base → f ∷ fs ≡ in_order tile.interval (f ∷ fs)
+pub reads_written : (names : TagLists) (tile : TilePlace) (f : Feature) (fs : List Feature) → tile.x < 2 ^ tile.interval.base → f ∷ fs ≡ in_tile_order tile.interval (f ∷ fs)
     → AllByRecursion (IsLevel names) (written_levels tile (f ∷ fs)) → length (tile_bytes tile (f ∷ fs)) < 2 ^ 63
     → read_tile names tile (tile_bytes tile (f ∷ fs)) ≡ Ok (map (listed names tile) (f ∷ fs))
 unfolding tile_bytes

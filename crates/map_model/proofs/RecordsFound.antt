@@ -14,9 +14,10 @@ use Rattle.mf_base.proofs.StepLaws.{bind_ok, require_ok, ok_is}
 use Rattle.feature_model.specs.Mapping.{IsOfKind, KeptValue, ValueKind}
 use Rattle.feature_model.specs.Choice.{Kept}
 use Rattle.map_model.specs.Layout.{PoiFields, flag, layer_byte, value_bytes, tag_bytes, poi_flags, poi_fields_bytes}
-use Rattle.map_model.specs.Listed.{tag_kind, tag_at}
+use Rattle.map_model.specs.TagLists.{tag_kind, tag_at}
 use Rattle.map_model.specs.Reader.{fixed_number}
-use Rattle.map_model.specs.TileReading.{TileKind, text_at, ranged, layer_at, id_at, value_at, kept_at, tags_at, has_flag, poi_at, IsText, IsKeptOf, IsPoi}
+use Rattle.map_model.specs.TileReading.{tile_text_at, ranged, layer_at, id_at, value_at, kept_at, tags_at, has_flag, poi_at, IsText, IsKeptOf, IsPoi}
+use Rattle.map_model.specs.declared.fault.TileKind.{TileKind}
 use Rattle.map_model.proofs.ReaderFound.{Takes, IsFound, Finds, nothing, then, fixed_number-found, times-found, each-found, where_set-found}
 use Rattle.map_model.proofs.PlacesFound.{IsSigned32, number-found, text_at-found, ranged-found, place_from-found}
 
@@ -47,7 +48,7 @@ unfolding layer_at
 layer_at-found bytes r small e =
     let b = bind_ok _ _ r e in
     let fits = bind_ok _ _ r b.2 in
-    let found = byte-found TileKind.short bytes b.0 small b.1 in
+    let found = byte-found TileKind.Short bytes b.0 small b.1 in
     let few = leb-true (b.0.0 / 16) 10 (require_ok _ _ _ fits.1) in
     let code : layer_byte (pos (b.0.0 / 16) -ℤ pos 5) (b.0.0 % 16) ≡ b.0.0 = rw (-ℤ-+ℤ_cancel (pos (b.0.0 / 16)) (pos 5)) (omega arith) in
     subst (IsFound (λ l. layer_byte l.0 l.1 ∷ []) IsLayer bytes) (ok_is ((pos (b.0.0 / 16) -ℤ pos 5, b.0.0 % 16), b.0.1) r fits.2)
@@ -77,17 +78,17 @@ pub value_at-found : (kind : ValueKind) → Finds (value_at kind) value_bytes (I
 value_at-found ValueKind.plain bytes r small e = subst (IsFound value_bytes (IsOfKind IsText ValueKind.plain) bytes) (ok_is (KeptValue.plain, bytes) r e) (nothing bytes small, tt)
 value_at-found ValueKind.byte bytes r small e =
     let n = bind_ok _ _ r e in
-    let found = fixed_number-found TileKind.short 1 bytes n.0 small n.1 in
+    let found = fixed_number-found TileKind.Short 1 bytes n.0 small n.1 in
     subst (IsFound value_bytes (IsOfKind IsText ValueKind.byte) bytes) (ok_is (KeptValue.byte (cast_signed w8 n.0.0), n.0.1) r n.2)
     (subst (λ m. Takes bytes (big_endian 1 m) n.0.1) (sym (of_z-to_z w8 n.0.0 found.1)) found.0, signed_8 n.0.0 found.1)
 value_at-found ValueKind.short bytes r small e =
     let n = bind_ok _ _ r e in
-    let found = fixed_number-found TileKind.short 2 bytes n.0 small n.1 in
+    let found = fixed_number-found TileKind.Short 2 bytes n.0 small n.1 in
     subst (IsFound value_bytes (IsOfKind IsText ValueKind.short) bytes) (ok_is (KeptValue.short (cast_signed w16 n.0.0), n.0.1) r n.2)
     (subst (λ m. Takes bytes (big_endian 2 m) n.0.1) (sym (of_z-to_z w16 n.0.0 found.1)) found.0, signed_16 n.0.0 found.1)
 value_at-found ValueKind.int bytes r small e =
     let n = bind_ok _ _ r e in
-    let found = fixed_number-found TileKind.short 4 bytes n.0 small n.1 in
+    let found = fixed_number-found TileKind.Short 4 bytes n.0 small n.1 in
     subst (IsFound value_bytes (IsOfKind IsText ValueKind.int) bytes) (ok_is (KeptValue.int (cast_signed w32 n.0.0), n.0.1) r n.2)
     (subst (λ m. Takes bytes (big_endian 4 m) n.0.1) (sym (of_z-to_z w32 n.0.0 found.1)) found.0, signed_32-within n.0.0 found.1)
 value_at-found ValueKind.text bytes r small e =
@@ -213,9 +214,9 @@ poi_at-found names corner bytes r small e =
     let height = bind_ok _ _ r house.2 in
     let a = place_from-found corner bytes place.0 small place.1 in
     let b = layered names place.0.1 layer.0 kept.0 a.0.behind layer.1 kept.1 in
-    let c = byte-found TileKind.short kept.0.1 flags.0 b.spelt.behind flags.1 in
-    let d = where_set-found text_at string IsText text_at-found (has_flag flags.0.0 0x80) flags.0.1 name.0 c.0.behind name.1 in
-    let h = where_set-found text_at string IsText text_at-found (has_flag flags.0.0 0x40) name.0.1 house.0 d.0.behind house.1 in
+    let c = byte-found TileKind.Short kept.0.1 flags.0 b.spelt.behind flags.1 in
+    let d = where_set-found tile_text_at string IsText text_at-found (has_flag flags.0.0 0x80) flags.0.1 name.0 c.0.behind name.1 in
+    let h = where_set-found tile_text_at string IsText text_at-found (has_flag flags.0.0 0x40) name.0.1 house.0 d.0.behind house.1 in
     let i = where_set-found (ranged (pos 0)) vbe_signed IsSigned32 height-found (has_flag flags.0.0 0x20) house.0.1 height.0 h.0.behind height.1 in
     let p : PoiFields = record { place = place.0.0; layer = layer.0.0.0; tags = kept.0.0; other = flags.0.0 % 32; name = name.0.0; house = house.0.0; height = height.0.0 } in
     let sum = poi_flags-sum p flags.0.0 c.1 d.1.1 h.1.1 i.1.1 refl in

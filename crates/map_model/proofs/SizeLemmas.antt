@@ -14,7 +14,7 @@ use Rattle.mf_base.specs.declared.place.Rect.{Rect}
 use Rattle.mf_base.specs.declared.tile.Interval.{Interval}
 use Rattle.mf_base.proofs.ByteLaws.{length-big_endian}
 use Rattle.map_model.specs.SubFile.{TileContent, entry_bytes, offset_of, index_bytes, sub_file_of, sub_file_size}
-use Rattle.map_model.specs.Listed.{TagLists}
+use Rattle.map_model.specs.TagLists.{TagLists}
 use Rattle.map_model.specs.Header.{HeadSettings, SubFile, HeaderFields, box_bytes, interval_bytes, middle_bytes, fields_bytes, header_fields_bytes, written_header, header_size, header_bytes}
 use Rattle.map_model.specs.Listing.{index_entry_of}
 

@@ -10,8 +10,8 @@ use Rattle.std.proofs.lemmas.List.FromFn.{length-range_with_len}
 use Rattle.mf_base.specs.declared.tile.TileRect.{TileRect}
 use Rattle.mf_base.specs.Texts.{Text, has_byte}
 use Rattle.feature_model.specs.Mapping.{Entry}
-use Rattle.map_model.specs.Tiles.{has_tile, common, tiles_of, entry_place, tile_count}
-use Rattle.map_model.specs.Listed.{entry_text, tag_key, tag_value}
+use Rattle.map_model.specs.TileRects.{has_tile, common, tiles_of, entry_place, tile_count}
+use Rattle.map_model.specs.TagLists.{entry_text, tag_key, tag_value}
 
 -- ---- lists
 

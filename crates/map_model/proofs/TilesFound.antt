@@ -8,12 +8,13 @@ use Rattle.mf_base.specs.declared.place.Place.{Place}
 use Rattle.mf_base.specs.declared.tile.Interval.{Interval}
 use Rattle.mf_base.specs.declared.tile.TilePlace.{TilePlace}
 use Rattle.mf_base.proofs.StepLaws.{bind_ok, require_ok, ok_is}
-use Rattle.map_model.specs.Tiles.{zooms}
+use Rattle.map_model.specs.Intervals.{zooms}
 use Rattle.map_model.specs.TileBytes.{tile_corner}
 use Rattle.map_model.specs.Layout.{PoiFields, WayFields, Level, poi_fields_bytes, way_fields_bytes, sized, level_count_bytes, levels_bytes}
-use Rattle.map_model.specs.Listed.{TagLists, Listed, shown_levels}
-use Rattle.map_model.specs.Reader.{times, each}
-use Rattle.map_model.specs.TileReading.{number, poi_at, way_at, counts_at, level_of, levels_at, shown_at, read_tile_from, read_tile, IsInRange, IsPoi, IsWay, IsLevel, SpellsLevels, ReadsTile}
+use Rattle.map_model.specs.Listed.{Listed, shown_levels}
+use Rattle.map_model.specs.TagLists.{TagLists}
+use Rattle.map_model.specs.Reader.{times, read_each}
+use Rattle.map_model.specs.TileReading.{tile_fault_at, number, poi_at, way_at, counts_at, level_of, levels_at, shown_at, read_tile_from, read_tile, IsPlaceOf32Bits, IsPoi, IsWay, IsLevel, SpellsLevels, ReadsTile}
 use Rattle.map_model.proofs.ReaderFound.{placed_ok, none_left, Takes, IsFound, Finds, then, times-found, each-found, part_size}
 use Rattle.map_model.proofs.PlacesFound.{number-found}
 use Rattle.map_model.proofs.RecordsFound.{poi_at-found}
@@ -80,10 +81,10 @@ record TileParts (names : TagLists) (interval : Interval) (corner : Place) (byte
   told : ℕ × List ℕ
   at_told : number counts.1 ≡ Ok told
   pois : List (List PoiFields) × List ℕ
-  at_pois : each (λ (c : ℕ × ℕ). times c.0 (poi_at names.poi corner)) counts.0 told.1 ≡ Ok pois
+  at_pois : read_each (λ (c : ℕ × ℕ). times c.0 (poi_at names.poi corner)) counts.0 told.1 ≡ Ok pois
   fits : told.0 + length pois.1 ≡ length told.1
   ways : List (List WayFields) × List ℕ
-  at_ways : each (λ (c : ℕ × ℕ). times c.1 (way_at names.way corner)) counts.0 pois.1 ≡ Ok ways
+  at_ways : read_each (λ (c : ℕ × ℕ). times c.1 (way_at names.way corner)) counts.0 pois.1 ≡ Ok ways
   nothing : length ways.1 ≡ 0
   is : map level_of (zip pois.0 ways.0) ≡ levels
 
@@ -113,10 +114,10 @@ tile_parts names interval corner bytes levels e =
 pois-found : (names : TagLists) (corner : Place) (c : ℕ × ℕ) → Finds (times c.0 (poi_at names.poi corner)) (flat_map (poi_fields_bytes corner)) (ArePois names c)
 pois-found names corner c = times-found (poi_at names.poi corner) (poi_fields_bytes corner) (IsPoi names.poi) (poi_at-found names.poi corner) c.0
 
-ways-found : (names : TagLists) (corner : Place) → IsInRange corner → (c : ℕ × ℕ) → Finds (times c.1 (way_at names.way corner)) (flat_map (way_fields_bytes corner)) (AreWays names c)
+ways-found : (names : TagLists) (corner : Place) → IsPlaceOf32Bits corner → (c : ℕ × ℕ) → Finds (times c.1 (way_at names.way corner)) (flat_map (way_fields_bytes corner)) (AreWays names c)
 ways-found names corner hc c = times-found (way_at names.way corner) (way_fields_bytes corner) (IsWay names.way) (way_at-found names.way corner hc) c.1
 
-spells_from : (names : TagLists) (interval : Interval) (corner : Place) (bytes : List ℕ) (levels : List Level) → IsInRange corner → IsBytes bytes → length bytes < 2 ^ 63
+spells_from : (names : TagLists) (interval : Interval) (corner : Place) (bytes : List ℕ) (levels : List Level) → IsPlaceOf32Bits corner → IsBytes bytes → length bytes < 2 ^ 63
     → TileParts names interval corner bytes levels → SpellsLevels names interval corner bytes levels
 unfolding levels_bytes sized
 spells_from names interval corner bytes levels hc small few x =
@@ -138,16 +139,16 @@ spells_from names interval corner bytes levels hc small few x =
     }
 
 -- what is read as levels is spelled so
-pub levels_at-found : (names : TagLists) (interval : Interval) (corner : Place) (bytes : List ℕ) (levels : List Level) → IsInRange corner → IsBytes bytes → length bytes < 2 ^ 63
+pub levels_at-found : (names : TagLists) (interval : Interval) (corner : Place) (bytes : List ℕ) (levels : List Level) → IsPlaceOf32Bits corner → IsBytes bytes → length bytes < 2 ^ 63
     → levels_at names interval corner bytes ≡ Ok levels → SpellsLevels names interval corner bytes levels
 levels_at-found names interval corner bytes levels hc small few e = spells_from names interval corner bytes levels hc small few (tile_parts names interval corner bytes levels e)
 
 -- what is read as a tile is spelled so
-read_tile-found : (names : TagLists) (tile : TilePlace) (bytes : List ℕ) (shown : List Listed) → IsInRange (tile_corner tile) → IsBytes bytes → length bytes < 2 ^ 63 → read_tile names tile bytes ≡ Ok shown → ReadsTile names tile bytes shown
+read_tile-found : (names : TagLists) (tile : TilePlace) (bytes : List ℕ) (shown : List Listed) → IsPlaceOf32Bits (tile_corner tile) → IsBytes bytes → length bytes < 2 ^ 63 → read_tile names tile bytes ≡ Ok shown → ReadsTile names tile bytes shown
 unfolding read_tile read_tile_from
 read_tile-found names tile [] shown hc small few e = sym (ok_is [] shown e)
 read_tile-found names tile (b ∷ bytes) shown hc small few e =
-    let levels = bind_ok _ _ shown (placed_ok (length (b ∷ bytes)) (shown_at names tile.interval (tile_corner tile) (b ∷ bytes)) shown e) in
+    let levels = bind_ok _ _ shown (placed_ok tile_fault_at (length (b ∷ bytes)) (shown_at names tile.interval (tile_corner tile) (b ∷ bytes)) shown e) in
     (levels.0, levels_at-found names tile.interval (tile_corner tile) (b ∷ bytes) levels.0 hc small few levels.1, sym (ok_is (shown_levels names tile.interval levels.0) shown levels.2))
 
 pub tile_spelled : (names : TagLists) (tile : TilePlace) (bytes : List ℕ) (shown : List Listed) → tile.x < 2 ^ tile.interval.base → IsBytes bytes → length bytes < 2 ^ 63 → read_tile names tile bytes ≡ Ok shown → ReadsTile names tile bytes shown

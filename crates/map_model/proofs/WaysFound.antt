@@ -10,7 +10,8 @@ use Rattle.feature_model.specs.Features.{Block}
 use Rattle.feature_model.specs.Choice.{Kept}
 use Rattle.map_model.specs.Layout.{WayFields, optional, step, step_bytes, first_of_blocks, block_bytes, way_flags, way_body_bytes, way_fields_bytes, sized}
 use Rattle.map_model.specs.Reader.{fixed_number, where_set}
-use Rattle.map_model.specs.TileReading.{TileKind, layer_at, tags_at, text_at, place_from, has_flag, block_at, block_count_at, blocks_at, first_place_at, two_signed, label_and_blocks_at, way_body_at, way_at, IsText, IsInRange, IsBlock, IsWay}
+use Rattle.map_model.specs.TileReading.{layer_at, tags_at, tile_text_at, place_from, has_flag, block_at, block_count_at, blocks_at, first_place_at, two_signed, label_and_blocks_at, way_body_at, way_at, IsText, IsPlaceOf32Bits, IsToldBlock, IsWay}
+use Rattle.map_model.specs.declared.fault.TileKind.{TileKind}
 use Rattle.map_model.proofs.ReaderFound.{Takes, IsFound, Finds, nothing, then, fixed_number-found, times-found, where_set-found, part_size}
 use Rattle.map_model.proofs.PlacesFound.{number-found, signed-found, count_from-found, text_at-found, place_from-found, block_at-found}
 use Rattle.map_model.proofs.RecordsFound.{below_4, byte-found, layered, flag_as}
@@ -39,7 +40,7 @@ block_count-found false bytes r small e =
 -- the number of blocks where it is told, then the blocks
 record AreBlocks (counted : Bool) (blocks : List Block) : Type 0 where
   count : IsCount counted (length blocks)
-  each : AllByRecursion IsBlock blocks
+  each : AllByRecursion IsToldBlock blocks
 
 abbrev blocks_bytes : Place → Bool → Bool → List Block → List ℕ
 blocks_bytes corner counted double blocks = count_bytes counted blocks ++ flat_map (block_bytes corner double) blocks
@@ -49,7 +50,7 @@ unfolding blocks_at count_bytes told_count
 blocks_at-found corner counted double bytes r small e =
     let n = bind_ok _ _ r e in
     let count = block_count-found counted bytes n.0 small n.1 in
-    let all = times-found (block_at corner double) (block_bytes corner double) IsBlock (block_at-found corner double) n.0.0 n.0.1 r count.0.behind n.2 in
+    let all = times-found (block_at corner double) (block_bytes corner double) IsToldBlock (block_at-found corner double) n.0.0 n.0.1 r count.0.behind n.2 in
     let many : n.0.0 ≡ length r.0 = sym all.1.0 in
     (then (subst (λ k. Takes bytes (told_count counted k) n.0.1) many count.0) all.0, record { count = subst (IsCount counted) many count.1; each = all.1.1 })
 
@@ -65,7 +66,7 @@ two_signed-found bytes r small e =
     subst (IsFound (λ z. vbe_signed z.0 ++ vbe_signed z.1) (λ z. ⊤) bytes) (ok_is ((lat.0.0, lon.0.0), lon.0.1) r lon.2) (then a.0 b.0, tt)
 
 -- the first place is that of the first ring of the blocks
-first_is : (corner : Place) (counted double : Bool) (bytes : List ℕ) (first : Place × List ℕ) (blocks : List Block × List ℕ) → IsInRange corner
+first_is : (corner : Place) (counted double : Bool) (bytes : List ℕ) (first : Place × List ℕ) (blocks : List Block × List ℕ) → IsPlaceOf32Bits corner
     → first_place_at corner counted bytes ≡ Ok first → IsFound (blocks_bytes corner counted double) (AreBlocks counted) bytes blocks → first.0 ≡ first_of_blocks blocks.0
 first_is corner counted double bytes first blocks hc e found =
     let count = found.1.count in
@@ -74,7 +75,7 @@ first_is corner counted double bytes first blocks hc e found =
     ap (λ (q : Place × List ℕ). q.0) (ok_is first (first_of_blocks blocks.0, again.0) (sym e ∙ ap (first_place_at corner counted) spelt ∙ again.1))
 
 -- a label is read twice, as numbers and as a place, and ends in the same place
-label_end : (set : Bool) (start : Place) (bytes : List ℕ) (numbers : Option (ℤ × ℤ) × List ℕ) (label : Option Place × List ℕ) → IsInRange start → IsBytes bytes
+label_end : (set : Bool) (start : Place) (bytes : List ℕ) (numbers : Option (ℤ × ℤ) × List ℕ) (label : Option Place × List ℕ) → IsPlaceOf32Bits start → IsBytes bytes
     → where_set set two_signed bytes ≡ Ok numbers → where_set set (place_from start) bytes ≡ Ok label → label.1 ≡ numbers.1
 unfolding Again
 label_end false start bytes numbers label hs small en el = ap (λ (q : Option Place × List ℕ). q.1) (sym (ok_is (None, bytes) label el)) ∙ ap (λ (q : Option (ℤ × ℤ) × List ℕ). q.1) (ok_is (None, bytes) numbers en)
@@ -89,14 +90,14 @@ label_end true start bytes numbers label hs small en el =
 
 -- a label where the bit is set, and blocks
 record IsRest (flags : ℕ) (rest : Option Place × List Block) : Type 0 where
-  label : IfSome rest.0 IsInRange
+  label : IfSome rest.0 IsPlaceOf32Bits
   set : is_some rest.0 ≡ has_flag flags 0x10
   blocks : AreBlocks (has_flag flags 0x08) rest.1
 
 abbrev rest_bytes : Place → ℕ → Option Place × List Block → List ℕ
 rest_bytes corner flags rest = optional (λ p. step_bytes (step (first_of_blocks rest.1) p)) rest.0 ++ blocks_bytes corner (has_flag flags 0x08) (has_flag flags 0x04) rest.1
 
-label_and_blocks-found : (corner : Place) (flags : ℕ) → IsInRange corner → Finds (label_and_blocks_at corner flags) (rest_bytes corner flags) (IsRest flags)
+label_and_blocks-found : (corner : Place) (flags : ℕ) → IsPlaceOf32Bits corner → Finds (label_and_blocks_at corner flags) (rest_bytes corner flags) (IsRest flags)
 unfolding label_and_blocks_at
 label_and_blocks-found corner flags hc bytes r small e =
     let numbers = bind_ok _ _ r e in
@@ -109,8 +110,8 @@ label_and_blocks-found corner flags hc bytes r small e =
     let n = where_set-found two_signed (λ z. vbe_signed z.0 ++ vbe_signed z.1) (λ z. ⊤) two_signed-found set bytes numbers.0 small numbers.1 in
     let b = blocks_at-found corner counted double numbers.0.1 blocks.0 n.0.behind blocks.1 in
     let is = first_is corner counted double numbers.0.1 first.0 blocks.0 hc first.1 b in
-    let start : IsInRange first.0.0 = subst IsInRange (sym is) (first_in_range blocks.0.0 b.1.count.some b.1.each) in
-    let l = where_set-found (place_from first.0.0) (λ p. step_bytes (step first.0.0 p)) IsInRange (place_from-found first.0.0) set bytes label.0 small label.1 in
+    let start : IsPlaceOf32Bits first.0.0 = subst IsPlaceOf32Bits (sym is) (first_in_range blocks.0.0 b.1.count.some b.1.each) in
+    let l = where_set-found (place_from first.0.0) (λ p. step_bytes (step first.0.0 p)) IsPlaceOf32Bits (place_from-found first.0.0) set bytes label.0 small label.1 in
     let same = label_end set first.0.0 bytes numbers.0 label.0 start small numbers.1 label.1 in
     let text = subst (λ (q : Place). Takes bytes (optional (λ p. step_bytes (step q p)) label.0.0) numbers.0.1) is (subst (λ c. Takes bytes (optional (λ p. step_bytes (step first.0.0 p)) label.0.0) c) same l.0) in
     subst (IsFound (rest_bytes corner flags) (IsRest flags) bytes) (ok_is ((label.0.0, blocks.0.0), blocks.0.1) r blocks.2)
@@ -155,19 +156,19 @@ way_of bits layer kept flags name house reference rest = record {
 -- the parts of a way's bytes as they are read, one after the other
 record WayParts (names : List (List ℕ)) (corner : Place) (bytes : List ℕ) (r : WayFields × List ℕ) : Type 0 where
   bits : ℕ × List ℕ
-  at_bits : fixed_number TileKind.short 2 bytes ≡ Ok bits
+  at_bits : fixed_number TileKind.Short 2 bytes ≡ Ok bits
   layer : (ℤ × ℕ) × List ℕ
   at_layer : layer_at bits.1 ≡ Ok layer
   kept : List Kept × List ℕ
   at_kept : tags_at names layer.0.1 layer.1 ≡ Ok kept
   flags : ℕ × List ℕ
-  at_flags : fixed_number TileKind.short 1 kept.1 ≡ Ok flags
+  at_flags : fixed_number TileKind.Short 1 kept.1 ≡ Ok flags
   name : Option (List ℕ) × List ℕ
-  at_name : where_set (has_flag flags.0 0x80) text_at flags.1 ≡ Ok name
+  at_name : where_set (has_flag flags.0 0x80) tile_text_at flags.1 ≡ Ok name
   house : Option (List ℕ) × List ℕ
-  at_house : where_set (has_flag flags.0 0x40) text_at name.1 ≡ Ok house
+  at_house : where_set (has_flag flags.0 0x40) tile_text_at name.1 ≡ Ok house
   reference : Option (List ℕ) × List ℕ
-  at_reference : where_set (has_flag flags.0 0x20) text_at house.1 ≡ Ok reference
+  at_reference : where_set (has_flag flags.0 0x20) tile_text_at house.1 ≡ Ok reference
   rest : (Option Place × List Block) × List ℕ
   at_rest : label_and_blocks_at corner flags.0 reference.1 ≡ Ok rest
   is : (way_of bits.0 layer.0.0 kept.0 flags.0 name.0 house.0 reference.0 rest.0, rest.1) ≡ r
@@ -203,15 +204,15 @@ way_parts names corner bytes r e =
       is = ok_is (way_of bits.0.0 layer.0.0.0 kept.0.0 flags.0.0 name.0.0 house.0.0 reference.0.0 rest.0.0, rest.0.1) r rest.2;
     }
 
-way_from : (names : List (List ℕ)) (corner : Place) (bytes : List ℕ) (r : WayFields × List ℕ) → IsInRange corner → IsBytes bytes → WayParts names corner bytes r → IsFound (way_body_bytes corner) (IsWay names) bytes r
+way_from : (names : List (List ℕ)) (corner : Place) (bytes : List ℕ) (r : WayFields × List ℕ) → IsPlaceOf32Bits corner → IsBytes bytes → WayParts names corner bytes r → IsFound (way_body_bytes corner) (IsWay names) bytes r
 unfolding way_body_bytes count_bytes
 way_from names corner bytes r hc small x =
-    let a = fixed_number-found TileKind.short 2 bytes x.bits small x.at_bits in
+    let a = fixed_number-found TileKind.Short 2 bytes x.bits small x.at_bits in
     let b = layered names x.bits.1 x.layer x.kept a.0.behind x.at_layer x.at_kept in
-    let c = byte-found TileKind.short x.kept.1 x.flags b.spelt.behind x.at_flags in
-    let d = where_set-found text_at string IsText text_at-found (has_flag x.flags.0 0x80) x.flags.1 x.name c.0.behind x.at_name in
-    let h = where_set-found text_at string IsText text_at-found (has_flag x.flags.0 0x40) x.name.1 x.house d.0.behind x.at_house in
-    let i = where_set-found text_at string IsText text_at-found (has_flag x.flags.0 0x20) x.house.1 x.reference h.0.behind x.at_reference in
+    let c = byte-found TileKind.Short x.kept.1 x.flags b.spelt.behind x.at_flags in
+    let d = where_set-found tile_text_at string IsText text_at-found (has_flag x.flags.0 0x80) x.flags.1 x.name c.0.behind x.at_name in
+    let h = where_set-found tile_text_at string IsText text_at-found (has_flag x.flags.0 0x40) x.name.1 x.house d.0.behind x.at_house in
+    let i = where_set-found tile_text_at string IsText text_at-found (has_flag x.flags.0 0x20) x.house.1 x.reference h.0.behind x.at_reference in
     let j = label_and_blocks-found corner x.flags.0 hc x.reference.1 x.rest i.0.behind x.at_rest in
     let w = way_of x.bits.0 x.layer.0.0 x.kept.0 x.flags.0 x.name.0 x.house.0 x.reference.0 x.rest.0 in
     let sum = way_flags-sum w x.flags.0 c.1 d.1.1 h.1.1 i.1.1 j.1.set refl refl refl in
@@ -223,10 +224,10 @@ way_from names corner bytes r hc small x =
       record { bits = a.1; layer = b.low; few = b.few; kept = b.each; other = below_4 x.flags.0; name = d.1.0; house = h.1.0; reference = i.1.0; label = j.1.label; single = count.single; counted = (count.some, count.few); blocks = j.1.blocks.each },
     )
 
-way_body_at-found : (names : List (List ℕ)) (corner : Place) → IsInRange corner → Finds (way_body_at names corner) (way_body_bytes corner) (IsWay names)
+way_body_at-found : (names : List (List ℕ)) (corner : Place) → IsPlaceOf32Bits corner → Finds (way_body_at names corner) (way_body_bytes corner) (IsWay names)
 way_body_at-found names corner hc bytes r small e = way_from names corner bytes r hc small (way_parts names corner bytes r e)
 
-pub way_at-found : (names : List (List ℕ)) (corner : Place) → IsInRange corner → Finds (way_at names corner) (way_fields_bytes corner) (IsWay names)
+pub way_at-found : (names : List (List ℕ)) (corner : Place) → IsPlaceOf32Bits corner → Finds (way_at names corner) (way_fields_bytes corner) (IsWay names)
 unfolding way_at way_fields_bytes sized
 way_at-found names corner hc bytes r small e =
     let told = bind_ok _ _ r e in

@@ -7,13 +7,17 @@ use Rattle.mf_base.specs.declared.tile.TilePlace.{TilePlace}
 use Rattle.osm_model.specs.Entities.{Entity, nodes_of, ways_of, relations_of}
 use Rattle.feature_model.specs.Mapping.{Mapping}
 use Rattle.feature_model.specs.Features.{Feature, features, skipped}
-use Rattle.feature_model.specs.Weights.{LimitFault, largest_candidate}
+use Rattle.feature_model.specs.declared.fault.LimitFault.{LimitFault}
+use Rattle.feature_model.specs.Limits.{largest_candidate}
 use Rattle.map_model.specs.Mercator.{raw_lat, column, corner}
-use Rattle.map_model.specs.Tiles.{tile_rect, meets, tiles_of, interval_tiles, in_tile, in_order, members, rect_of, zooms, weight_of_tile}
+use Rattle.map_model.specs.TileRects.{tile_rect, meets, tiles_of}
+use Rattle.map_model.specs.Intervals.{interval_tiles, zooms}
+use Rattle.map_model.specs.Members.{in_tile, in_tile_order, members, weight_of_tile}
+use Rattle.map_model.specs.Rectangles.{rect_of}
 use Rattle.map_model.specs.Layout.{levels_bytes}
 use Rattle.map_model.specs.TileBytes.{tile_corner, tile_bytes, written_level, written_levels}
 use Rattle.map_model.specs.SubFile.{content_of, contents, water}
-use Rattle.map_model.specs.MapFile.{all_contents, all_tiles, map_file, tile_limit, shape_size, job_size, report, shown_tiles, water_tiles, largest, largest_tile}
+use Rattle.map_model.specs.MapFile.{all_contents, all_tiles, map_file, tile_limit_fault, shape_size, job_size, report, shown_tiles, water_tiles, largest, largest_tile}
 use Rattle.map_model.specs.Samples.{world_corner, world_tile, settings_to}
 use Rattle.map_model.proofs.MercatorLemmas.{row-zero}
 use Rattle.map_model.proofs.Compute.{latitudes}
@@ -48,11 +52,11 @@ world_all_tiles max box = rw (world_tiles box max) refl
 
 -- what the one tile shows, up to the greatest zoom level
 abbrev pub world_shown : ℕ → List Feature → List Feature
-world_shown max features = in_order (world_tile max).interval (filter (λ f. nat_le f.zoom max && true) features)
+world_shown max features = in_tile_order (world_tile max).interval (filter (λ f. nat_le f.zoom max && true) features)
 
 pub world_members : (max : ℕ) (features : List Feature) → members features (world_tile max) ≡ world_shown max features
 unfolding members in_tile
-world_members max features = λ i. in_order (world_tile max).interval (filter (λ f. nat_le f.zoom max && meets-zero (rect_of f) i) features)
+world_members max features = λ i. in_tile_order (world_tile max).interval (filter (λ f. nat_le f.zoom max && meets-zero (rect_of f) i) features)
 
 pub world_contents : (max : ℕ) (box : Rect) (features : List Feature) → all_contents (settings_to max) box features ≡ (content_of (world_tile max) (world_shown max features) ∷ []) ∷ []
 unfolding all_contents contents
@@ -70,14 +74,14 @@ world_bytes max f fs = bytes_from (world_tile max) world_corner f fs corner-worl
 
 -- ---- limits and report
 
-pub world_limit : (limit max : ℕ) (box : Rect) (features : List Feature) → tile_limit limit (settings_to max) box features
-    ≡ cond (nat_lt limit (weight_of_tile (world_shown max features))) (Some (LimitFault.tile 0 0 0 (weight_of_tile (world_shown max features)))) None
-unfolding tile_limit
+pub world_limit : (limit max : ℕ) (box : Rect) (features : List Feature) → tile_limit_fault limit (settings_to max) box features
+    ≡ cond (nat_lt limit (weight_of_tile (world_shown max features))) (Some (LimitFault.Tile 0 0 0 (weight_of_tile (world_shown max features)))) None
+unfolding tile_limit_fault
 world_limit limit max box features = rw (world_all_tiles max box, world_members max features) (found (nat_lt limit (weight_of_tile (world_shown max features))))
   where
-    found : (over : Bool) → option_map (λ (t : TilePlace). LimitFault.tile t.index t.x t.y (weight_of_tile (members features t))) (cond over (Some (world_tile max)) None)
-        ≡ cond over (Some (LimitFault.tile 0 0 0 (weight_of_tile (world_shown max features)))) None
-    found true = ap (λ ms. Some (LimitFault.tile 0 0 0 (weight_of_tile ms))) (world_members max features)
+    found : (over : Bool) → option_map (λ (t : TilePlace). LimitFault.Tile t.index t.x t.y (weight_of_tile (members features t))) (cond over (Some (world_tile max)) None)
+        ≡ cond over (Some (LimitFault.Tile 0 0 0 (weight_of_tile (world_shown max features)))) None
+    found true = ap (λ ms. Some (LimitFault.Tile 0 0 0 (weight_of_tile ms))) (world_members max features)
     found false = refl
 
 pub world_size : (max : ℕ) (mapping : Mapping) (box : Rect) (entities : List Entity)

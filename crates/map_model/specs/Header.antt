@@ -2,14 +2,15 @@
 use Rattle.std.specs.Prelude.{ℕ, ◌<◌, ◌≤◌, ◌^◌, IfSome, IsTrue, map, sum, take, ◌+◌, ◌*◌, ℤ, List, [], ◌∷◌, ◌++◌, zip, flat_map, length, sum_by, Option, is_some, codes}
 use Rattle.std.specs.Int.{w32, cast_unsigned}
 use Rattle.std.specs.List.{enumerate_from}
+use Rattle.std.specs.Str.{is_utf8}
 use Rattle.mf_base.specs.Ranges.{is_on_earth}
 use Rattle.mf_base.specs.Spelling.{string, big_endian}
 use Rattle.mf_base.specs.declared.place.Place.{Place}
 use Rattle.mf_base.specs.declared.place.Rect.{Rect}
 use Rattle.mf_base.specs.declared.tile.Interval.{Interval}
-use Rattle.map_model.specs.Tiles.{are_intervals}
+use Rattle.map_model.specs.Intervals.{are_intervals}
 use Rattle.map_model.specs.Layout.{optional, flag}
-use Rattle.map_model.specs.Listed.{TagLists}
+use Rattle.map_model.specs.TagLists.{TagLists}
 
 -- What the words of the command line say of the header. The date of creation is in milliseconds since 1970.
 pub record HeadSettings : Type 0 where
@@ -21,14 +22,18 @@ pub record HeadSettings : Type 0 where
   pub created_by : Option (List ℕ)
   pub intervals : List Interval
 
+-- a text of at most 255 bytes, in UTF-8
+abbrev pub IsShortText : List ℕ → Type 0
+IsShortText text = (length text ≤ 255) × IsTrue (is_utf8 text)
+
 -- What the words can say: a start position on the earth, a start zoom level of at most 21, texts of at most 255 bytes, and intervals that follow each other.
 pub record IsHeadSettings (set : HeadSettings) : Type 0 where
   pub date : set.date < 2 ^ 63
   pub start : IfSome set.start (λ p. IsTrue (is_on_earth p))
   pub start_zoom : IfSome set.start_zoom (λ zoom. zoom ≤ 21)
-  pub language : IfSome set.language (λ text. length text ≤ 255)
-  pub comment : IfSome set.comment (λ text. length text ≤ 255)
-  pub created_by : IfSome set.created_by (λ text. length text ≤ 255)
+  pub language : IfSome set.language IsShortText
+  pub comment : IfSome set.comment IsShortText
+  pub created_by : IfSome set.created_by IsShortText
   pub intervals : IsTrue (are_intervals set.intervals)
 
 -- where a sub-file starts in the file, and how many bytes it has
@@ -84,17 +89,17 @@ middle_bytes tile_size other set names =
 abbrev pub interval_bytes : Interval × SubFile → List ℕ
 interval_bytes at = big_endian 1 at.0.base ++ big_endian 1 at.0.min ++ big_endian 1 at.0.max ++ big_endian 8 at.1.start ++ big_endian 8 at.1.size
 
--- the fields after the header size, in a file of so many bytes
+-- the fields after the header size; the file size counts all bytes of the file
 unfoldable pub fields_bytes : ℕ → HeaderFields → List ℕ
-fields_bytes total h =
-    big_endian 4 5 ++ big_endian 8 total ++ big_endian 8 h.settings.date ++ box_bytes h.bounds
+fields_bytes file_size h =
+    big_endian 4 5 ++ big_endian 8 file_size ++ big_endian 8 h.settings.date ++ box_bytes h.bounds
     ++ middle_bytes h.tile_size h.other h.settings h.names
     ++ flat_map interval_bytes (zip h.settings.intervals h.subs)
     ++ h.after
 
 -- the whole header; the header size counts the bytes after its own field
 unfoldable pub header_fields_bytes : ℕ → HeaderFields → List ℕ
-header_fields_bytes total h = magic_word ++ big_endian 4 (length (fields_bytes total h)) ++ fields_bytes total h
+header_fields_bytes file_size h = magic_word ++ big_endian 4 (length (fields_bytes file_size h)) ++ fields_bytes file_size h
 
 -- what is written in the header
 unfoldable pub written_header : HeadSettings → Rect → TagLists → List SubFile → HeaderFields
@@ -104,9 +109,13 @@ written_header set box names subs = record { settings = set; bounds = box; tile_
 unfoldable pub header_size : HeadSettings → TagLists → ℕ
 header_size set names = 60 + length (middle_bytes 256 0 set names) + 19 * length set.intervals
 
+-- the file size: the header and all sub-files
+abbrev pub file_size : HeadSettings → TagLists → List SubFile → ℕ
+file_size set names subs = header_size set names + sum_by (λ s. s.size) subs
+
 -- the header, with one sub-file for each interval; the file ends where the last of them does
 unfoldable pub header_bytes : HeadSettings → Rect → TagLists → List SubFile → List ℕ
-header_bytes set box names subs = header_fields_bytes (header_size set names + sum_by (λ s. s.size) subs) (written_header set box names subs)
+header_bytes set box names subs = header_fields_bytes (file_size set names subs) (written_header set box names subs)
 
 -- sub-files of these sizes, the first behind a header of so many bytes and each behind the one before, without a gap
 unfoldable pub sub_files : ℕ → List ℕ → List SubFile

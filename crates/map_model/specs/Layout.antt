@@ -8,7 +8,7 @@ use Rattle.feature_model.specs.Inside.{Ring}
 use Rattle.feature_model.specs.Mapping.{KeptValue}
 use Rattle.feature_model.specs.Choice.{Kept}
 use Rattle.map_model.specs.Numbers.{above_zero}
-use Rattle.map_model.specs.Tiles.{origin, first_place}
+use Rattle.map_model.specs.Rectangles.{origin, first_place}
 
 -- What the bytes of a POI tell, in the order of their fields. `other` are the flag bits that have no name.
 pub record PoiFields : Type 0 where

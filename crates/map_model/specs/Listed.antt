@@ -1,21 +1,17 @@
 -- What a reader of a map sees of a tile. This project's profile.
-use Rattle.std.specs.Prelude.{ℕ, ◌∷◌, ◌==◌, ℤ, List, [], ◌++◌, map, flat_map, zip, Option, slice_index_or, if◌then◌else◌}
-use Rattle.std.specs.List.{before_first, after_first}
+use Rattle.std.specs.Prelude.{ℕ, ℤ, List, ◌++◌, map, flat_map, zip, Option, if◌then◌else◌}
 use Rattle.mf_base.specs.declared.place.Place.{Place}
 use Rattle.mf_base.specs.declared.tile.Interval.{Interval}
 use Rattle.mf_base.specs.declared.tile.TilePlace.{TilePlace}
-use Rattle.mf_base.specs.Texts.{Text}
 use Rattle.feature_model.specs.Features.{Block, Feature}
-use Rattle.feature_model.specs.Mapping.{KeptValue, Entry, Mapping, ValueKind, value_kind}
+use Rattle.feature_model.specs.Mapping.{KeptValue}
 use Rattle.feature_model.specs.Choice.{Kept}
-use Rattle.map_model.specs.Tiles.{is_poi, effective_zoom, sub_tile_bits, zooms}
+use Rattle.map_model.specs.Members.{is_poi}
+use Rattle.map_model.specs.TagLists.{TagLists, tag_key, tag_at}
+use Rattle.map_model.specs.Intervals.{raised_zoom, zooms}
+use Rattle.map_model.specs.Bitmap.{sub_tile_bits}
 use Rattle.map_model.specs.Layout.{PoiFields, WayFields, Level}
 use Rattle.map_model.specs.TileBytes.{poi_fields, way_fields, tile_corner}
-
--- the texts of a header's tags, a list for POIs and a list for ways
-pub record TagLists : Type 0 where
-  pub poi : List (List ℕ)
-  pub way : List (List ℕ)
 
 -- A shown tag: the header's text, or its key and a value of the feature.
 pub data ShownTag : Type 0 where
@@ -50,32 +46,6 @@ pub data Listed : Type 0 where
   poi : ListedPoi → Listed
   way : ListedWay → Listed
 
--- ---- tags of the header
-
--- an entry in the header: `key=value`
-abbrev pub entry_text : Entry → Text
-entry_text e = e.key ++ 61 ∷ e.value
-
--- the texts of a mapping's entries
-abbrev pub tag_lists : Mapping → TagLists
-tag_lists mapping = record { poi = map entry_text mapping.poi; way = map entry_text mapping.way }
-
--- the key of a tag's text: what stands before its first `=`
-abbrev pub tag_key : List ℕ → List ℕ
-tag_key tag = before_first (λ b. b == 61) tag
-
--- the value of a tag's text: what stands after that, or nothing where there is no `=`
-abbrev pub tag_value : List ℕ → List ℕ
-tag_value tag = after_first (λ b. b == 61) tag
-
--- the kind of a tag's value
-unfoldable pub tag_kind : List ℕ → ValueKind
-tag_kind tag = value_kind (tag_value tag)
-
--- the text of the tag with this id
-abbrev pub tag_at : List (List ℕ) → ℕ → List ℕ
-tag_at tags id = slice_index_or tags id []
-
 -- ---- what is shown
 
 -- a tag with what is kept of its value: its text, or its key and the value of the feature
@@ -88,25 +58,25 @@ shown_value tag (KeptValue.text bytes) = ShownTag.text (tag_key tag) bytes
 
 -- the tags of a feature, by the texts of their ids
 abbrev pub shown_tags : List (List ℕ) → List Kept → List ShownTag
-shown_tags tags kept = map (λ k. shown_value (tag_at tags k.tag) k.value) kept
+shown_tags texts kept = map (λ k. shown_value (tag_at texts k.tag) k.value) kept
 
 -- a POI of this zoom level
 abbrev pub shown_poi : List (List ℕ) → ℕ → PoiFields → ListedPoi
-shown_poi tags zoom p = record { zoom = zoom; layer = p.layer; place = p.place; tags = shown_tags tags p.tags; name = p.name; house = p.house; height = p.height }
+shown_poi texts zoom p = record { zoom = zoom; layer = p.layer; place = p.place; tags = shown_tags texts p.tags; name = p.name; house = p.house; height = p.height }
 
 -- a way of this zoom level
 abbrev pub shown_way : List (List ℕ) → ℕ → WayFields → ListedWay
-shown_way tags zoom w = record { zoom = zoom; layer = w.layer; bits = w.bits; tags = shown_tags tags w.tags; name = w.name; house = w.house; reference = w.reference; label = w.label; blocks = w.blocks }
+shown_way texts zoom w = record { zoom = zoom; layer = w.layer; bits = w.bits; tags = shown_tags texts w.tags; name = w.name; house = w.house; reference = w.reference; label = w.label; blocks = w.blocks }
 
 -- the records of a tile: the POIs by zoom level, then the ways
 unfoldable pub shown_levels : TagLists → Interval → List Level → List Listed
-shown_levels tags interval levels =
-    flat_map (λ at. map (λ p. poi (shown_poi tags.poi at.0 p)) at.1.pois) (zip (zooms interval) levels)
-    ++ flat_map (λ at. map (λ w. way (shown_way tags.way at.0 w)) at.1.ways) (zip (zooms interval) levels)
+shown_levels names interval levels =
+    flat_map (λ at. map (λ p. poi (shown_poi names.poi at.0 p)) at.1.pois) (zip (zooms interval) levels)
+    ++ flat_map (λ at. map (λ w. way (shown_way names.way at.0 w)) at.1.ways) (zip (zooms interval) levels)
 
 -- a feature as a reader sees it in a tile
 unfoldable pub listed : TagLists → TilePlace → Feature → Listed
-listed tags tile f =
-    let zoom = effective_zoom tile.interval f.zoom in
-    if is_poi f then poi (shown_poi tags.poi zoom (poi_fields f))
-    else way (shown_way tags.way zoom (way_fields (tile_corner tile) (sub_tile_bits f tile) f))
+listed names tile f =
+    let zoom = raised_zoom tile.interval f.zoom in
+    if is_poi f then poi (shown_poi names.poi zoom (poi_fields f))
+    else way (shown_way names.way zoom (way_fields (tile_corner tile) (sub_tile_bits f tile) f))

@@ -1,16 +1,21 @@
 -- The whole map, its limits and the report: Mapsforge Specification, Binary Map File Format, version 5, on the structure of the file; limits and report are this project's profile.
-use Rattle.std.specs.Prelude.{ℕ, ◌+◌, ◌^◌, ◌≤◌, max, nat_lt, nat_le, List, [], ◌∷◌, ◌++◌, map, flat_map, fold, length, sum_by, count_by, find, Option, option_map, codes, decimal}
+use Rattle.std.specs.Prelude.{ℕ, ◌+◌, ◌^◌, max, nat_lt, nat_le, List, [], ◌∷◌, ◌++◌, map, flat_map, fold, length, sum_by, count_by, find, Option, option_map, codes, decimal}
 use Rattle.std.specs.List.{enumerate_from}
 use Rattle.std.specs.Option.{option_or}
 use Rattle.mf_base.specs.declared.place.Rect.{Rect}
 use Rattle.mf_base.specs.declared.tile.TilePlace.{TilePlace}
 use Rattle.osm_model.specs.Entities.{Entity, nodes_of, ways_of, relations_of}
 use Rattle.feature_model.specs.Mapping.{Mapping}
-use Rattle.feature_model.specs.Features.{Feature, candidates, weight, features, skipped}
-use Rattle.feature_model.specs.Weights.{LimitFault, candidate_fault, largest_candidate}
-use Rattle.map_model.specs.Tiles.{interval_tiles, members, weight_of_tile}
+use Rattle.feature_model.specs.Features.{Feature, features, skipped}
+use Rattle.feature_model.specs.Candidates.{candidates}
+use Rattle.feature_model.specs.Weights.{weight}
+use Rattle.feature_model.specs.declared.fault.LimitFault.{LimitFault}
+use Rattle.feature_model.specs.Limits.{candidate_fault, largest_candidate}
+use Rattle.map_model.specs.Intervals.{interval_tiles}
+use Rattle.map_model.specs.Members.{members, weight_of_tile}
 use Rattle.map_model.specs.SubFile.{TileContent, water, contents, sub_file_of, sub_file_size}
-use Rattle.map_model.specs.Listed.{TagLists, tag_lists}
+use Rattle.map_model.specs.TagLists.{TagLists, tag_lists}
+use Rattle.map_model.specs.declared.report.Report.{Report}
 use Rattle.map_model.specs.Header.{HeadSettings, header_size, header_bytes, sub_files}
 
 -- the contents of the tiles of each interval, in order
@@ -19,12 +24,12 @@ all_contents set box features = map (λ at. contents features box at.0 at.1) (en
 
 -- the header, followed by the sub-files
 unfoldable pub map_of_contents : HeadSettings → TagLists → Rect → List (List TileContent) → List ℕ
-map_of_contents set tags box all =
-    header_bytes set box tags (sub_files (header_size set tags) (map sub_file_size all)) ++ flat_map sub_file_of all
+map_of_contents set names box all =
+    header_bytes set box names (sub_files (header_size set names) (map sub_file_size all)) ++ flat_map sub_file_of all
 
 -- the map of some features
 unfoldable pub map_of : HeadSettings → TagLists → Rect → List Feature → List ℕ
-map_of set tags box features = map_of_contents set tags box (all_contents set box features)
+map_of set names box features = map_of_contents set names box (all_contents set box features)
 
 -- the map of the entities of an input
 unfoldable pub map_file : HeadSettings → Mapping → Rect → List Entity → List ℕ
@@ -48,18 +53,14 @@ largest_tile set box features = fold max 0 (map (tile_weight features) (all_tile
 unfoldable pub largest : HeadSettings → Mapping → Rect → List Entity → ℕ
 largest set mapping box entities = max (largest_candidate mapping entities) (largest_tile set box (features mapping entities))
 
--- a row limit suffices where nothing weighs more
-abbrev pub Suffices : ℕ → HeadSettings → Mapping → Rect → List Entity → Type 0
-Suffices limit set mapping box entities = largest set mapping box entities ≤ limit
-
 -- the first tile that weighs more than the limit, by interval, then y, then x
-unfoldable pub tile_limit : ℕ → HeadSettings → Rect → List Feature → Option LimitFault
-tile_limit limit set box features =
-    option_map (λ t. LimitFault.tile t.index t.x t.y (tile_weight features t)) (find (λ t. nat_lt limit (tile_weight features t)) (all_tiles set box))
+unfoldable pub tile_limit_fault : ℕ → HeadSettings → Rect → List Feature → Option LimitFault
+tile_limit_fault limit set box features =
+    option_map (λ t. LimitFault.Tile t.index t.x t.y (tile_weight features t)) (find (λ t. nat_lt limit (tile_weight features t)) (all_tiles set box))
 
 -- the first interval whose sub-file has 2^39 bytes or more
-unfoldable pub sub_file_limit : List ℕ → Option LimitFault
-sub_file_limit sizes = option_map (λ at. LimitFault.sub_file at.0 at.1) (find (λ at. nat_le (2 ^ 39) at.1) (enumerate_from 0 sizes))
+unfoldable pub sub_file_limit_fault : List ℕ → Option LimitFault
+sub_file_limit_fault sizes = option_map (λ at. LimitFault.SubFile at.0 at.1) (find (λ at. nat_le (2 ^ 39) at.1) (enumerate_from 0 sizes))
 
 -- the sizes of the sub-files, in bytes
 abbrev pub sub_file_sizes : HeadSettings → Rect → List Feature → List ℕ
@@ -67,7 +68,7 @@ sub_file_sizes set box features = map sub_file_size (all_contents set box featur
 
 -- the first tile, else the first sub-file that passes its limit
 unfoldable pub layout_fault : ℕ → HeadSettings → Rect → List Feature → Option LimitFault
-layout_fault limit set box features = option_or (tile_limit limit set box features) (sub_file_limit (sub_file_sizes set box features))
+layout_fault limit set box features = option_or (tile_limit_fault limit set box features) (sub_file_limit_fault (sub_file_sizes set box features))
 
 -- the first candidate, else the first tile, else the first sub-file that passes its limit
 unfoldable pub limit_fault : ℕ → HeadSettings → Mapping → Rect → List Entity → Option LimitFault
@@ -95,18 +96,6 @@ shown_tiles set box features = count_by (λ tile. nat_lt 0 (length (members feat
 -- how many tiles have the water bit
 unfoldable pub water_tiles : HeadSettings → Rect → List Feature → ℕ
 water_tiles set box features = count_by (λ tile. water tile (members features tile)) (all_tiles set box)
-
--- What a finished run tells: the entities of the input by kind, features and skipped candidates, tiles with members and with the water bit, the bytes of the map, and the greatest weight.
-pub record Report : Type 0 where
-  pub nodes : ℕ
-  pub ways : ℕ
-  pub relations : ℕ
-  pub features : ℕ
-  pub skipped : ℕ
-  pub tiles : ℕ
-  pub water : ℕ
-  pub bytes : ℕ
-  pub largest : ℕ
 
 -- the report of the map of an input
 unfoldable pub report : HeadSettings → Mapping → Rect → List Entity → Report

@@ -8,15 +8,10 @@ pub record Stop (Kind : Type 0) : Type 0 where
   pub kind : Kind
   pub left : ℕ
 
--- a field that has no spelling, by its place in the whole
-pub record FaultAt (Kind : Type 0) : Type 0 where
-  pub at : ℕ
-  pub kind : Kind
-
 -- a reading of so many bytes, its fault by the place where the field starts
-abbrev pub placed : {Kind X : Type 0} → ℕ → Result X (Stop Kind) → Result X (FaultAt Kind)
-placed total (Ok x) = Ok x
-placed total (Err e) = Err (record { at = total - e.left; kind = e.kind })
+abbrev pub with_place : {Kind Fault X : Type 0} → (ℕ → Kind → Fault) → ℕ → Result X (Stop Kind) → Result X Fault
+with_place fault size (Ok x) = Ok x
+with_place fault size (Err e) = Err (fault (size - e.left) e.kind)
 
 -- what a reader answers: a value and the bytes after it
 abbrev pub Read : Type 0 → Type 0 → Type 0
@@ -57,12 +52,12 @@ times (suc n) read bytes = do
   others ← times n read first.1
   Ok (first.0 ∷ others.0, others.1)
 
--- a value for each element of a list, one after another
-unfoldable pub each : {Kind C X : Type 0} → (C → List ℕ → Read Kind X) → List C → List ℕ → Read Kind (List X)
-each read [] bytes = Ok ([], bytes)
-each read (c ∷ cs) bytes = do
+-- a value for read_each element of a list, one after another
+unfoldable pub read_each : {Kind C X : Type 0} → (C → List ℕ → Read Kind X) → List C → List ℕ → Read Kind (List X)
+read_each read [] bytes = Ok ([], bytes)
+read_each read (c ∷ cs) bytes = do
   first ← read c bytes
-  others ← each read cs first.1
+  others ← read_each read cs first.1
   Ok (first.0 ∷ others.0, others.1)
 
 -- a field that is there where the flag is set

@@ -13,11 +13,10 @@ use Rattle.feature_model.specs.Features.{Shape, Feature, Block}
 use Rattle.feature_model.specs.Samples.{at, tag, node_at, entry, poi_mapping}
 use Rattle.map_model.specs.Header.{HeadSettings}
 use Rattle.map_model.specs.SubFile.{TileContent}
-use Rattle.map_model.specs.MapFile.{Report}
-use Rattle.map_model.specs.TileReading.{TileKind, TileFault}
-use Rattle.map_model.specs.HeaderReading.{HeaderKind, HeaderFault}
+use Rattle.map_model.specs.declared.report.Report.{Report}
 use Rattle.map_model.specs.Listing.{Band}
-use Rattle.map_model.specs.Listed.{TagLists, ShownTag, Listed, ListedWay, poi}
+use Rattle.map_model.specs.Listed.{ShownTag, Listed, ListedWay, poi}
+use Rattle.map_model.specs.TagLists.{TagLists}
 
 -- a place of this latitude and longitude, in microdegrees
 abbrev pub at_place : ℤ → ℤ → Place
@@ -73,7 +72,7 @@ way_of places = record {
   weight = 11;
 }
 
--- a closed way with the label mark
+-- a closed ring of five places
 abbrev pub garden_ring : Ring
 garden_ring = at_place (pos 0) (pos 0) ∷ at_place (pos 0) (pos 20) ∷ at_place (pos 10) (pos 20) ∷ at_place (pos 10) (pos 0) ∷ at_place (pos 0) (pos 0) ∷ []
 
@@ -105,7 +104,7 @@ degree_box = record { min_lat = negsuc 999999; min_lon = negsuc 999999; max_lat 
 abbrev pub bench_tags : TagLists
 bench_tags = record { poi = codes "amenity=bench" ∷ []; way = [] }
 
--- the map of the bench
+-- the sub-file of the map of the bench: its index of one entry, and one tile
 abbrev pub bench_sub_file : List ℕ
 bench_sub_file =
     0x00 ∷ 0x00 ∷ 0x00 ∷ 0x00 ∷ 0x05
@@ -144,7 +143,7 @@ valued_bench tag = poi (record { zoom = 17; layer = pos 0; place = at_place (pos
 abbrev pub world_tile : ℕ → TilePlace
 world_tile max = record { index = 0; interval = record { base = 0; min = 0; max = max }; x = 0; y = 0 }
 
--- the tile of the garden: zoom levels 0 to 21, no POI, and one way of zoom 17
+-- the tag of the garden in a header
 abbrev pub garden_tags : TagLists
 garden_tags = record { poi = []; way = codes "leisure=garden" ∷ [] }
 
@@ -154,7 +153,7 @@ garden_bytes =
     0x1A ∷ 0x02 ∷ 0x20 ∷ 0x51 ∷ 0x00 ∷ 0x10 ∷ 0x05 ∷ 0x0A ∷ 0x01 ∷ 0x05 ∷ 0xF8 ∷ 0x8D ∷ 0xC7 ∷ 0x68 ∷ 0x80 ∷ 0xAA ∷ 0xEA ∷ 0xD5 ∷ 0x00
     ∷ 0x00 ∷ 0x14 ∷ 0x0A ∷ 0x00 ∷ 0x00 ∷ 0x54 ∷ 0x4A ∷ 0x00 ∷ []
 
--- the tile of the garden
+-- the tile of the garden: zoom levels 0 to 21, no POI, and one way of zoom 17
 abbrev pub garden_tile : List ℕ
 garden_tile = replicate 35 0 ++ 0x01 ∷ replicate 8 0 ++ 0x00 ∷ garden_bytes
 
@@ -162,7 +161,7 @@ garden_tile = replicate 35 0 ++ 0x01 ∷ replicate 8 0 ++ 0x00 ∷ garden_bytes
 abbrev pub bench_numbers : Report
 bench_numbers = record { nodes = 1; ways = 0; relations = 0; features = 1; skipped = 0; tiles = 1; water = 0; bytes = 144; largest = 11 }
 
--- a closed water way through two latitudes and two longitudes, along its four sides, and a tile of zoom 5
+-- a closed water way along the four sides of a rectangle
 abbrev pub lake : Feature
 lake = record (way_of (at_place (negsuc 4999999) (pos 5000000) ∷ at_place (pos 16000000) (pos 5000000) ∷ at_place (pos 16000000) (pos 28000000) ∷ at_place (negsuc 4999999) (pos 28000000) ∷ at_place (negsuc 4999999) (pos 5000000) ∷ [])) { water = true }
 
@@ -190,7 +189,7 @@ area_of blocks = record (way_of []) { shape = Shape.blocks blocks }
 abbrev pub content : Bool → List ℕ → TileContent
 content water bytes = record { water = water; bytes = bytes }
 
--- the default intervals, and the box of the place (0, 0)
+-- the default intervals
 abbrev pub three_intervals : List Interval
 three_intervals = record { base = 5; min = 0; max = 7 } ∷ record { base = 10; min = 8; max = 11 } ∷ record { base = 14; min = 12; max = 21 } ∷ []
 
@@ -222,14 +221,6 @@ two_tiles = record { interval = record { base = 1; min = 1; max = 7 }; sub = rec
 -- its index, whose second offset is below the first, and three bytes
 abbrev pub two_tiles_file : List ℕ
 two_tiles_file = 0x00 ∷ 0x00 ∷ 0x00 ∷ 0x00 ∷ 0x0C ∷ 0x00 ∷ 0x00 ∷ 0x00 ∷ 0x00 ∷ 0x0B ∷ 0x01 ∷ 0x02 ∷ 0x03 ∷ []
-
--- a fault of a header, and of a tile
-abbrev pub header_refused : ℕ → HeaderKind → HeaderFault
-header_refused at why = record { at = at; kind = why }
-
--- a fault of a tile
-abbrev pub tile_refused : ℕ → TileKind → TileFault
-tile_refused at why = record { at = at; kind = why }
 
 -- the garden as a reader sees it, under these bits
 abbrev pub listed_garden : ℕ → ListedWay

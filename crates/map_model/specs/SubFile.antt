@@ -8,7 +8,11 @@ use Rattle.mf_base.specs.declared.tile.Interval.{Interval}
 use Rattle.mf_base.specs.declared.tile.TilePlace.{TilePlace}
 use Rattle.feature_model.specs.Features.{Feature}
 use Rattle.feature_model.specs.Inside.{edges, inside}
-use Rattle.map_model.specs.Tiles.{rings_of, rect_of_places, meets, is_closed, interval_tiles, members}
+use Rattle.map_model.specs.Rectangles.{rings_of, rect_of_places}
+use Rattle.map_model.specs.TileRects.{meets}
+use Rattle.map_model.specs.Labels.{is_closed}
+use Rattle.map_model.specs.Intervals.{interval_tiles}
+use Rattle.map_model.specs.Members.{members}
 use Rattle.map_model.specs.TileBytes.{tile_corner, tile_bytes}
 
 -- an edge whose rectangle meets the tile

@@ -4,7 +4,11 @@ use Rattle.mf_base.specs.declared.place.Place.{Place}
 use Rattle.mf_base.specs.declared.tile.TilePlace.{TilePlace}
 use Rattle.feature_model.specs.Features.{Feature}
 use Rattle.map_model.specs.Mercator.{corner}
-use Rattle.map_model.specs.Tiles.{blocks_of_shape, rings_of, places_of, first_place, is_poi, is_way, zooms, of_zoom, sub_tile_bits, label_place}
+use Rattle.map_model.specs.Rectangles.{blocks_of_shape, rings_of, places_of, first_place}
+use Rattle.map_model.specs.Members.{is_poi, is_way, of_zoom}
+use Rattle.map_model.specs.Intervals.{zooms}
+use Rattle.map_model.specs.Bitmap.{sub_tile_bits}
+use Rattle.map_model.specs.Labels.{label_place}
 use Rattle.map_model.specs.Layout.{PoiFields, WayFields, Level, coordinate_bytes, poi_fields_bytes, way_fields_bytes, levels_bytes}
 
 -- what is written of a POI

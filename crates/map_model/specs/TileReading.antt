@@ -1,6 +1,4 @@
 -- Reading a tile, with its first fault: Mapsforge Specification, Binary Map File Format, version 5, on tile header, POIs and ways; the faults are this project's profile.
-use Rattle.feature_model.specs.Features.{Block}
-use Rattle.feature_model.specs.Inside.{Ring}
 use Rattle.std.specs.Prelude.{◌≡◌, ℕ, zero, suc, ◌+◌, ◌-◌, ◌/◌, ◌%◌, ◌^◌, ◌<◌, ◌≤◌, nat_lt, nat_le, ◌==◌, if◌then◌else◌, Bool, true, false, IsTrue, ℤ, pos, negsuc, ◌+ℤ◌, ◌-ℤ◌, List, [], ◌∷◌, map, zip, length, take, drop, Option, IfSome, Result, Ok}
 use Rattle.std.specs.List.{AllByRecursion}
 use Rattle.std.specs.Str.{is_utf8}
@@ -9,73 +7,56 @@ use Rattle.mf_base.specs.declared.place.Place.{Place}
 use Rattle.mf_base.specs.declared.tile.Interval.{Interval}
 use Rattle.mf_base.specs.declared.tile.TilePlace.{TilePlace}
 use Rattle.mf_base.specs.NumberReading.{unsigned_front, signed_front}
-use Rattle.feature_model.specs.Mapping.{IsOfKind, KeptValue}
+use Rattle.feature_model.specs.Mapping.{IsOfKind, KeptValue, ValueKind}
 use Rattle.feature_model.specs.Choice.{Kept}
 use Rattle.mf_base.specs.Ranges.{is_signed_32, lies_within}
-use Rattle.mf_base.specs.Steps.{fault_of}
-use Rattle.map_model.specs.Tiles.{origin, zooms}
+use Rattle.mf_base.specs.Steps.{fault_of, ◌>>=◌}
+use Rattle.feature_model.specs.Features.{Block}
+use Rattle.feature_model.specs.Inside.{Ring}
+use Rattle.map_model.specs.declared.fault.TileKind.{TileKind}
+use Rattle.map_model.specs.declared.fault.TileFault.{TileFault}
+use Rattle.map_model.specs.Rectangles.{origin}
+use Rattle.map_model.specs.Intervals.{zooms}
 use Rattle.map_model.specs.Layout.{PoiFields, WayFields, Level, step, levels_bytes}
 use Rattle.map_model.specs.TileBytes.{tile_corner}
-use Rattle.map_model.specs.Listed.{TagLists, Listed, tag_kind, tag_at, shown_levels}
-use Rattle.feature_model.specs.Mapping.{IsOfKind, ValueKind}
-use Rattle.map_model.specs.Reader.{Stop, FaultAt, placed, Read, want, or_stop, with_rest, fixed_number, times, each, where_set}
-use Rattle.mf_base.specs.Steps.{◌>>=◌}
+use Rattle.map_model.specs.Listed.{Listed, shown_levels}
+use Rattle.map_model.specs.TagLists.{TagLists, tag_kind, tag_at}
+use Rattle.map_model.specs.Reader.{Stop, with_place, Read, want, or_stop, with_rest, fixed_number, times, read_each, where_set}
 
--- why a field of a tile has no spelling
-pub data TileKind : Type 0 where
-  -- a VBE number is misspelt or too wide
-  vbe : TileKind
-  -- the bytes end in a field of fixed width
-  short : TileKind
-  -- a tag id is not below the list's count
-  tag : TileKind
-  -- a string goes past the end, or is no UTF-8
-  text : TileKind
-  -- a coordinate or an elevation is outside 32 bits, or a layer is above 5
-  range : TileKind
-  -- there is no data block, no ring, or a ring of fewer than two places
-  points : TileKind
-  -- a way's fields do not take its data size
-  size : TileKind
-  -- the POIs do not take the first-way offset
-  offset : TileKind
-  -- bytes stand behind the last way
-  left : TileKind
-
--- the first field without a spelling, by its place in the tile
-abbrev pub TileFault : Type 0
-TileFault = FaultAt TileKind
+-- a kind of fault at a place of a tile
+abbrev pub tile_fault_at : ℕ → TileKind → TileFault
+tile_fault_at at kind = record { at = at; kind = kind }
 
 -- ---- Numbers, texts, places
 
 -- an unsigned VBE number
 unfoldable pub number : List ℕ → Read TileKind ℕ
-number bytes = or_stop vbe bytes (with_rest bytes (unsigned_front bytes))
+number bytes = or_stop TileKind.Vbe bytes (with_rest bytes (unsigned_front bytes))
 
 -- a signed VBE number
 unfoldable pub signed : List ℕ → Read TileKind ℤ
-signed bytes = or_stop vbe bytes (with_rest bytes (signed_front bytes))
+signed bytes = or_stop TileKind.Vbe bytes (with_rest bytes (signed_front bytes))
 
 -- a count of at least so many things
 unfoldable pub count_from : ℕ → List ℕ → Read TileKind ℕ
 count_from few bytes = do
   n ← number bytes
-  enough ← want (nat_le few n.0) points bytes
+  enough ← want (nat_le few n.0) TileKind.Points bytes
   Ok n
 
 -- a text: its length, and bytes that are UTF-8
-unfoldable pub text_at : List ℕ → Read TileKind (List ℕ)
-text_at bytes = do
+unfoldable pub tile_text_at : List ℕ → Read TileKind (List ℕ)
+tile_text_at bytes = do
   n ← number bytes
-  whole ← want (nat_le n.0 (length n.1)) TileKind.text bytes
-  good ← want (is_utf8 (take n.0 n.1)) TileKind.text bytes
+  whole ← want (nat_le n.0 (length n.1)) TileKind.Text bytes
+  good ← want (is_utf8 (take n.0 n.1)) TileKind.Text bytes
   Ok (take n.0 n.1, drop n.0 n.1)
 
 -- a number that with the base lies in 32 bits
 unfoldable pub ranged : ℤ → List ℕ → Read TileKind ℤ
 ranged base bytes = do
   d ← signed bytes
-  fits ← want (is_signed_32 (base +ℤ d.0)) range bytes
+  fits ← want (is_signed_32 (base +ℤ d.0)) TileKind.Range bytes
   Ok (base +ℤ d.0, d.1)
 
 -- a place, told by how far it is from another
@@ -90,31 +71,31 @@ place_from base bytes = do
 -- the layer, and the number of tags
 unfoldable pub layer_at : List ℕ → Read TileKind (ℤ × ℕ)
 layer_at bytes = do
-  b ← fixed_number TileKind.short 1 bytes
-  fits ← want (nat_le (b.0 / 16) 10) range bytes
+  b ← fixed_number TileKind.Short 1 bytes
+  fits ← want (nat_le (b.0 / 16) 10) TileKind.Range bytes
   Ok ((pos (b.0 / 16) -ℤ pos 5, b.0 % 16), b.1)
 
 -- a tag id, which is below the list's count
 unfoldable pub id_at : List (List ℕ) → List ℕ → Read TileKind ℕ
 id_at tags bytes = do
   id ← number bytes
-  known ← want (nat_lt id.0 (length tags)) tag bytes
+  known ← want (nat_lt id.0 (length tags)) TileKind.Tag bytes
   Ok id
 
 -- the value of a tag of this kind
 abbrev pub value_at : ValueKind → List ℕ → Read TileKind KeptValue
 value_at ValueKind.plain bytes = Ok (KeptValue.plain, bytes)
 value_at ValueKind.byte bytes = do
-  n ← fixed_number TileKind.short 1 bytes
+  n ← fixed_number TileKind.Short 1 bytes
   Ok (KeptValue.byte (cast_signed w8 n.0), n.1)
 value_at ValueKind.short bytes = do
-  n ← fixed_number TileKind.short 2 bytes
+  n ← fixed_number TileKind.Short 2 bytes
   Ok (KeptValue.short (cast_signed w16 n.0), n.1)
 value_at ValueKind.int bytes = do
-  n ← fixed_number TileKind.short 4 bytes
+  n ← fixed_number TileKind.Short 4 bytes
   Ok (KeptValue.int (cast_signed w32 n.0), n.1)
 value_at ValueKind.text bytes = do
-  t ← text_at bytes
+  t ← tile_text_at bytes
   Ok (KeptValue.text t.0, t.1)
 
 -- the tag with this id, and its value
@@ -127,7 +108,7 @@ kept_at tags id bytes = do
 unfoldable pub tags_at : List (List ℕ) → ℕ → List ℕ → Read TileKind (List Kept)
 tags_at tags count bytes = do
   ids ← times count (id_at tags) bytes
-  each (kept_at tags) ids.0 ids.1
+  read_each (kept_at tags) ids.0 ids.1
 
 -- the flag with this bit is set
 abbrev pub has_flag : ℕ → ℕ → Bool
@@ -141,9 +122,9 @@ poi_at tags corner bytes = do
   place ← place_from corner bytes
   layer ← layer_at place.1
   kept ← tags_at tags layer.0.1 layer.1
-  flags ← fixed_number TileKind.short 1 kept.1
-  name ← where_set (has_flag flags.0 0x80) text_at flags.1
-  house ← where_set (has_flag flags.0 0x40) text_at name.1
+  flags ← fixed_number TileKind.Short 1 kept.1
+  name ← where_set (has_flag flags.0 0x80) tile_text_at flags.1
+  house ← where_set (has_flag flags.0 0x40) tile_text_at name.1
   height ← where_set (has_flag flags.0 0x20) (ranged (pos 0)) house.1
   Ok (record { place = place.0; layer = layer.0.0; tags = kept.0; other = flags.0 % 32; name = name.0; house = house.0; height = height.0 }, height.1)
 
@@ -214,13 +195,13 @@ label_and_blocks_at corner flags bytes = do
 -- the fields of a way behind its data size
 unfoldable pub way_body_at : List (List ℕ) → Place → List ℕ → Read TileKind WayFields
 way_body_at tags corner bytes = do
-  bits ← fixed_number TileKind.short 2 bytes
+  bits ← fixed_number TileKind.Short 2 bytes
   layer ← layer_at bits.1
   kept ← tags_at tags layer.0.1 layer.1
-  flags ← fixed_number TileKind.short 1 kept.1
-  name ← where_set (has_flag flags.0 0x80) text_at flags.1
-  house ← where_set (has_flag flags.0 0x40) text_at name.1
-  reference ← where_set (has_flag flags.0 0x20) text_at house.1
+  flags ← fixed_number TileKind.Short 1 kept.1
+  name ← where_set (has_flag flags.0 0x80) tile_text_at flags.1
+  house ← where_set (has_flag flags.0 0x40) tile_text_at name.1
+  reference ← where_set (has_flag flags.0 0x20) tile_text_at house.1
   rest ← label_and_blocks_at corner flags.0 reference.1
   Ok (
     record {
@@ -244,7 +225,7 @@ unfoldable pub way_at : List (List ℕ) → Place → List ℕ → Read TileKind
 way_at tags corner bytes = do
   told ← number bytes
   way ← way_body_at tags corner told.1
-  fits ← want (told.0 + length way.1 == length told.1) size bytes
+  fits ← want (told.0 + length way.1 == length told.1) TileKind.Size bytes
   Ok way
 
 -- ---- tile
@@ -262,33 +243,33 @@ level_of parts = record { pois = parts.0; ways = parts.1 }
 
 -- a tile: the zoom table, the first-way offset, the POIs, the ways, and nothing after them
 unfoldable pub levels_at : TagLists → Interval → Place → List ℕ → Result (List Level) (Stop TileKind)
-levels_at tags interval corner bytes = do
+levels_at names interval corner bytes = do
   counts ← times (length (zooms interval)) counts_at bytes
   told ← number counts.1
-  pois ← each (λ c. times c.0 (poi_at tags.poi corner)) counts.0 told.1
-  fits ← want (told.0 + length pois.1 == length told.1) offset counts.1
-  ways ← each (λ c. times c.1 (way_at tags.way corner)) counts.0 pois.1
-  nothing ← want (length ways.1 == 0) TileKind.left ways.1
+  pois ← read_each (λ c. times c.0 (poi_at names.poi corner)) counts.0 told.1
+  fits ← want (told.0 + length pois.1 == length told.1) TileKind.Offset counts.1
+  ways ← read_each (λ c. times c.1 (way_at names.way corner)) counts.0 pois.1
+  nothing ← want (length ways.1 == 0) TileKind.Left ways.1
   Ok (map level_of (zip pois.0 ways.0))
 
 -- the records of a tile; empty bytes are a tile without members
 abbrev pub shown_at : TagLists → Interval → Place → List ℕ → Result (List Listed) (Stop TileKind)
-shown_at tags interval corner [] = Ok []
-shown_at tags interval corner (b ∷ bytes) = do
-  levels ← levels_at tags interval corner (b ∷ bytes)
-  Ok (shown_levels tags interval levels)
+shown_at names interval corner [] = Ok []
+shown_at names interval corner (b ∷ bytes) = do
+  levels ← levels_at names interval corner (b ∷ bytes)
+  Ok (shown_levels names interval levels)
 
 -- the records of a tile with this corner, or the first field without a spelling
 unfoldable pub read_tile_from : Place → TagLists → Interval → List ℕ → Result (List Listed) TileFault
-read_tile_from corner tags interval bytes = placed (length bytes) (shown_at tags interval corner bytes)
+read_tile_from corner names interval bytes = with_place tile_fault_at (length bytes) (shown_at names interval corner bytes)
 
 -- the records of a tile in order, or the first field without a spelling
 unfoldable pub read_tile : TagLists → TilePlace → List ℕ → Result (List Listed) TileFault
-read_tile tags tile bytes = read_tile_from (tile_corner tile) tags tile.interval bytes
+read_tile names tile bytes = read_tile_from (tile_corner tile) names tile.interval bytes
 
 -- the first field without a spelling
 unfoldable pub tile_fault : TagLists → TilePlace → List ℕ → Option TileFault
-tile_fault tags tile bytes = fault_of (read_tile tags tile bytes)
+tile_fault names tile bytes = fault_of (read_tile names tile bytes)
 
 -- ---- the grammar
 
@@ -297,8 +278,8 @@ abbrev pub IsText : List ℕ → Type 0
 IsText bytes = (length bytes < 2 ^ 63) × IsTrue (is_utf8 bytes)
 
 -- a place whose latitude and longitude are numbers of 32 bits
-abbrev pub IsInRange : Place → Type 0
-IsInRange p = IsTrue (is_signed_32 p.lat) × IsTrue (is_signed_32 p.lon)
+abbrev pub IsPlaceOf32Bits : Place → Type 0
+IsPlaceOf32Bits p = IsTrue (is_signed_32 p.lat) × IsTrue (is_signed_32 p.lon)
 
 -- a tag of the list, with a value of its kind
 abbrev pub IsKeptOf : List (List ℕ) → Kept → Type 0
@@ -306,7 +287,7 @@ IsKeptOf tags k = (k.tag < length tags) × (k.tag < 2 ^ 63) × IsOfKind IsText (
 
 -- what a POI can tell: tags in any order, and unnamed flag bits
 pub record IsPoi (tags : List (List ℕ)) (p : PoiFields) : Type 0 where
-  pub place : IsInRange p.place
+  pub place : IsPlaceOf32Bits p.place
   pub layer : IsTrue (lies_within (negsuc 4) (pos 5) p.layer)
   pub few : length p.tags < 16
   pub kept : AllByRecursion (IsKeptOf tags) p.tags
@@ -316,12 +297,12 @@ pub record IsPoi (tags : List (List ℕ)) (p : PoiFields) : Type 0 where
   pub height : IfSome p.height (λ n. IsTrue (is_signed_32 n))
 
 -- a ring has two places at least
-abbrev pub IsRing : Ring → Type 0
-IsRing ring = (2 ≤ length ring) × (length ring < 2 ^ 63) × AllByRecursion IsInRange ring
+abbrev pub IsToldRing : Ring → Type 0
+IsToldRing ring = (2 ≤ length ring) × (length ring < 2 ^ 63) × AllByRecursion IsPlaceOf32Bits ring
 
 -- a data block has one ring at least
-abbrev pub IsBlock : Block → Type 0
-IsBlock rings = (1 ≤ length rings) × (length rings < 2 ^ 63) × AllByRecursion IsRing rings
+abbrev pub IsToldBlock : Block → Type 0
+IsToldBlock rings = (1 ≤ length rings) × (length rings < 2 ^ 63) × AllByRecursion IsToldRing rings
 
 -- what a way can tell: besides, any bitmap, either delta kind, and any number of data blocks from 1 where it is told
 pub record IsWay (tags : List (List ℕ)) (w : WayFields) : Type 0 where
@@ -333,26 +314,26 @@ pub record IsWay (tags : List (List ℕ)) (w : WayFields) : Type 0 where
   pub name : IfSome w.name IsText
   pub house : IfSome w.house IsText
   pub reference : IfSome w.reference IsText
-  pub label : IfSome w.label IsInRange
+  pub label : IfSome w.label IsPlaceOf32Bits
   pub single : w.counted ≡ false → length w.blocks ≡ 1
   pub counted : (1 ≤ length w.blocks) × (length w.blocks < 2 ^ 63)
-  pub blocks : AllByRecursion IsBlock w.blocks
+  pub blocks : AllByRecursion IsToldBlock w.blocks
 
 -- what one zoom level can tell
-pub record IsLevel (tags : TagLists) (level : Level) : Type 0 where
-  pub pois : AllByRecursion (IsPoi tags.poi) level.pois
-  pub ways : AllByRecursion (IsWay tags.way) level.ways
+pub record IsLevel (names : TagLists) (level : Level) : Type 0 where
+  pub pois : AllByRecursion (IsPoi names.poi) level.pois
+  pub ways : AllByRecursion (IsWay names.way) level.ways
   pub counts : (length level.pois < 2 ^ 63) × (length level.ways < 2 ^ 63)
 
--- the bytes are a tile that tells these levels, one for each zoom level of the interval
-pub record SpellsLevels (tags : TagLists) (interval : Interval) (corner : Place) (bytes : List ℕ) (levels : List Level) : Type 0 where
-  pub each : AllByRecursion (IsLevel tags) levels
+-- the bytes are a tile that tells these levels, one for read_each zoom level of the interval
+pub record SpellsLevels (names : TagLists) (interval : Interval) (corner : Place) (bytes : List ℕ) (levels : List Level) : Type 0 where
+  pub each : AllByRecursion (IsLevel names) levels
   pub all : length levels ≡ length (zooms interval)
   pub spelt : bytes ≡ levels_bytes corner levels
   pub small : length bytes < 2 ^ 63
 
 -- the bytes spell these records
 abbrev pub ReadsTile : TagLists → TilePlace → List ℕ → List Listed → Type 0
-ReadsTile tags tile [] shown = shown ≡ []
-ReadsTile tags tile (b ∷ bytes) shown =
-    (levels : List Level) × SpellsLevels tags tile.interval (tile_corner tile) (b ∷ bytes) levels × (shown ≡ shown_levels tags tile.interval levels)
+ReadsTile names tile [] shown = shown ≡ []
+ReadsTile names tile (b ∷ bytes) shown =
+    (levels : List Level) × SpellsLevels names tile.interval (tile_corner tile) (b ∷ bytes) levels × (shown ≡ shown_levels names tile.interval levels)

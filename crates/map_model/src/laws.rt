@@ -11,10 +11,14 @@ ghost use Rattle.mf_base.specs.Texts.{has_byte};
 ghost use Rattle.feature_model.specs.Mapping.{Entry};
 ghost use Rattle.feature_model.specs.Features.{Feature};
 ghost use Rattle.map_model.specs.Mercator.{edge_lat, fine_row, IsFineRow, row, column, corner};
-ghost use Rattle.map_model.specs.Tiles.{has_tile, common, tile_rect, meets, tiles_of, tile_count, entry_place, in_order, members, is_poi, is_way, effective_zoom, zooms, sub_tile_bits};
+ghost use Rattle.map_model.specs.TileRects.{has_tile, common, tile_rect, meets, tiles_of, tile_count, entry_place};
+ghost use Rattle.map_model.specs.Members.{in_tile_order, members, is_poi, is_way};
+ghost use Rattle.map_model.specs.Intervals.{raised_zoom, zooms};
+ghost use Rattle.map_model.specs.Bitmap.{sub_tile_bits};
 ghost use Rattle.map_model.specs.Layout.{sized};
 ghost use Rattle.map_model.specs.TileBytes.{tile_corner, tile_bytes, written_levels, poi_bytes, way_bytes};
-ghost use Rattle.map_model.specs.Listed.{entry_text, tag_key, tag_value, TagLists, Listed, shown_levels, listed};
+ghost use Rattle.map_model.specs.Listed.{Listed, shown_levels, listed};
+ghost use Rattle.map_model.specs.TagLists.{entry_text, tag_key, tag_value, TagLists};
 ghost use Rattle.map_model.specs.TileReading.{IsLevel, ReadsTile, read_tile};
 ghost use Rattle.map_model.specs.SubFile.{TileContent, entry_bytes, index_bytes, sub_file_of, sub_file_size};
 ghost use Rattle.map_model.specs.Header.{HeadSettings, SubFile, header_size, header_bytes};
@@ -40,13 +44,13 @@ pub fn one_tile_of_zoom_0()
 /// The bytes of a tile whose members stand in order are the zoom table, the first-way offset, the POIs and the ways, and tell each member.
 #[tactic(auto, using(crate::proofs::LevelLemmas::level_laws))]
 pub fn tile_tells_its_members()
-    ensures flat { (tile : TilePlace) (f : Feature) (fs : List Feature) → f ∷ fs ≡ in_order tile.interval (f ∷ fs)
-        → tile_bytes tile (f ∷ fs) ≡ flat_map (λ zoom. vbe_unsigned (count_by (λ g. effective_zoom tile.interval g.zoom == zoom) (filter is_poi (f ∷ fs))) ++ vbe_unsigned (count_by (λ g. effective_zoom tile.interval g.zoom == zoom) (filter is_way (f ∷ fs)))) (zooms tile.interval)
+    ensures flat { (tile : TilePlace) (f : Feature) (fs : List Feature) → f ∷ fs ≡ in_tile_order tile.interval (f ∷ fs)
+        → tile_bytes tile (f ∷ fs) ≡ flat_map (λ zoom. vbe_unsigned (count_by (λ g. raised_zoom tile.interval g.zoom == zoom) (filter is_poi (f ∷ fs))) ++ vbe_unsigned (count_by (λ g. raised_zoom tile.interval g.zoom == zoom) (filter is_way (f ∷ fs)))) (zooms tile.interval)
         ++ sized (flat_map (poi_bytes (tile_corner tile)) (filter is_poi (f ∷ fs)))
         ++ flat_map (λ g. way_bytes (tile_corner tile) (sub_tile_bits g tile) g) (filter is_way (f ∷ fs)) }
-    ensures shown { (tags : TagLists) (tile : TilePlace) (fs : List Feature) → fs ≡ in_order tile.interval fs
+    ensures shown { (tags : TagLists) (tile : TilePlace) (fs : List Feature) → fs ≡ in_tile_order tile.interval fs
         → shown_levels tags tile.interval (written_levels tile fs) ≡ map (listed tags tile) fs }
-    ensures in_order { (features : List Feature) (tile : TilePlace) → members features tile ≡ in_order tile.interval (members features tile) }
+    ensures in_tile_order { (features : List Feature) (tile : TilePlace) → members features tile ≡ in_tile_order tile.interval (members features tile) }
 {}
 
 /// The tiles of a rectangle stand at their places in its list, and a tile is common to two rectangles exactly where it is in both.
@@ -83,7 +87,7 @@ pub fn tile_is_read_again()
     ensures read { (names : TagLists) (tile : TilePlace) (bytes : List ℕ) (shown : List Listed) → tile.x < 2 ^ tile.interval.base
         → ReadsTile names tile bytes shown → read_tile names tile bytes ≡ Ok shown }
     ensures members { (names : TagLists) (tile : TilePlace) (f : Feature) (fs : List Feature) → tile.x < 2 ^ tile.interval.base
-        → f ∷ fs ≡ in_order tile.interval (f ∷ fs)
+        → f ∷ fs ≡ in_tile_order tile.interval (f ∷ fs)
         → AllByRecursion (IsLevel names) (written_levels tile (f ∷ fs)) → length (tile_bytes tile (f ∷ fs)) < 2 ^ 63
         → read_tile names tile (tile_bytes tile (f ∷ fs)) ≡ Ok (map (listed names tile) (f ∷ fs)) }
 {}

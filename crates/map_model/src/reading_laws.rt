@@ -3,7 +3,8 @@
 ghost use Rattle.std.specs.Prelude.{◌≡◌, ℕ, ◌+◌, ◌-◌, ◌<◌, ◌≤◌, ◌^◌, List, ◌++◌, length, take, Ok};
 ghost use Rattle.mf_base.specs.Spelling.{IsBytes};
 ghost use Rattle.mf_base.specs.declared.tile.TilePlace.{TilePlace};
-ghost use Rattle.map_model.specs.Listed.{TagLists, Listed};
+ghost use Rattle.map_model.specs.Listed.{Listed};
+ghost use Rattle.map_model.specs.TagLists.{TagLists};
 ghost use Rattle.map_model.specs.TileReading.{ReadsTile, read_tile};
 ghost use Rattle.map_model.specs.HeaderReading.{Header, ReadsHeader, ReadsMapHeader, header_length, read_header};
 

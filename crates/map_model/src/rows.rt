@@ -5,15 +5,20 @@ ghost use Rattle.mf_base.specs.declared.kind.EntityKind.{EntityKind};
 ghost use Rattle.osm_model.specs.Input.{input_entities, known_box};
 ghost use Rattle.osm_model.specs.Samples as extracts;
 ghost use Rattle.feature_model.specs.Mapping.{KeptValue};
-ghost use Rattle.feature_model.specs.Weights.{LimitFault};
+ghost use Rattle.feature_model.specs.declared.fault.LimitFault.{LimitFault};
 ghost use Rattle.feature_model.specs.Samples.{benches, bench_with, paths, path, node_at, way_of as way_through, at, forests, forest_of, outer, member_of};
 ghost use Rattle.map_model.specs.Mercator.{root_of_scale, raw_lat, row, column, edge_lat, corner, corner_lat};
-ghost use Rattle.map_model.specs.Tiles.{interval_tiles, are_intervals, shown_zoom, in_order, origin, rect_of_places, tile_rect, tiles_of, entry_place, members, rect_bits, label_place};
+ghost use Rattle.map_model.specs.Intervals.{interval_tiles, are_intervals, effective_zoom};
+ghost use Rattle.map_model.specs.Members.{in_tile_order, members};
+ghost use Rattle.map_model.specs.Rectangles.{origin, rect_of_places};
+ghost use Rattle.map_model.specs.TileRects.{tile_rect, tiles_of, entry_place};
+ghost use Rattle.map_model.specs.Bitmap.{rect_bits};
+ghost use Rattle.map_model.specs.Labels.{label_place};
 ghost use Rattle.map_model.specs.Layout.{coordinate_bytes};
 ghost use Rattle.map_model.specs.TileBytes.{poi_bytes, way_bytes, is_double, tile_bytes};
 ghost use Rattle.map_model.specs.SubFile.{water, index_bytes, sub_file_of, sub_file_size};
 ghost use Rattle.map_model.specs.Header.{box_bytes, head_flags, header_size, header_bytes, sub_files};
-ghost use Rattle.map_model.specs.MapFile.{limit_fault, map_file, tile_limit, sub_file_limit, shape_size, job_size, report, report_line};
+ghost use Rattle.map_model.specs.MapFile.{limit_fault, map_file, tile_limit_fault, sub_file_limit_fault, shape_size, job_size, report, report_line};
 ghost use Rattle.map_model.specs.Samples.{zoom_range, numbered, zigzag, garden_tile, at_place, world_corner, world_tile, to_origin, bench, bench_with_value, way_of, area_of, garden, garden_bytes, eastward, outer_ring, inner_ring, lake, open_lake, lake_tile, middle_tile, content, settings_to, three_intervals, origin_box, origin_header, degree_box, bench_tags, bench_map, empty_map, bench_numbers, five_benches, late_benches};
 
 /// Corners and edges near the pole, and the columns.
@@ -51,7 +56,7 @@ pub fn rectangles()
     ensures of_places { rect_of_places (at_place (pos 1) (pos 5) ∷ at_place (negsuc 2) (pos 9) ∷ []) ≡ record { min_lat = negsuc 2; min_lon = pos 5; max_lat = pos 1; max_lon = pos 9 } }
     ensures first_column { (tile_rect (record { min_lat = pos 0; min_lon = pos 11250000; max_lat = pos 0; max_lon = pos 12000000 }) 5).first_x ≡ 17 }
     ensures last_column { (tile_rect (record { min_lat = pos 0; min_lon = pos 11250000; max_lat = pos 0; max_lon = pos 12000000 }) 5).last_x ≡ 17 }
-    ensures in_order { tiles_of (record { z = 1; first_x = 0; last_x = 1; first_y = 0; last_y = 1 }) ≡ (0, 0) ∷ (1, 0) ∷ (0, 1) ∷ (1, 1) ∷ [] }
+    ensures in_tile_order { tiles_of (record { z = 1; first_x = 0; last_x = 1; first_y = 0; last_y = 1 }) ≡ (0, 0) ∷ (1, 0) ∷ (0, 1) ∷ (1, 1) ∷ [] }
     ensures place { entry_place (record { z = 5; first_x = 16; last_x = 18; first_y = 14; last_y = 16 }) 17 15 ≡ 4 }
     ensures of_the_base { row 5 (pos 20000000) ≡ 14 → row 5 (negsuc 9999999) ≡ 16 → interval_tiles (record { min_lat = negsuc 9999999; min_lon = pos 1000000; max_lat = pos 20000000; max_lon = pos 30000000 }) 0 (zoom_range 5 0 7)
         ≡ lake_tile 16 14 ∷ lake_tile 17 14 ∷ lake_tile 18 14 ∷ lake_tile 16 15 ∷ lake_tile 17 15 ∷ lake_tile 18 15 ∷ lake_tile 16 16 ∷ lake_tile 17 16 ∷ lake_tile 18 16 ∷ [] }
@@ -71,8 +76,8 @@ pub fn intervals()
     ensures broken { map are_intervals ([] ∷ (zoom_range 0 1 7 ∷ []) ∷ (zoom_range 8 0 7 ∷ []) ∷ (zoom_range 17 0 18 ∷ []) ∷ (zoom_range 5 0 22 ∷ []) ∷ (zoom_range 5 0 7 ∷ zoom_range 10 9 11 ∷ []) ∷ (zoom_range 5 0 7 ∷ zoom_range 10 7 11 ∷ []) ∷ []) ≡ replicate 7 false }
     ensures eight { are_intervals (map (λ z. zoom_range z z z) (0 ∷ 1 ∷ 2 ∷ 3 ∷ 4 ∷ 5 ∷ 6 ∷ 7 ∷ [])) ≡ true }
     ensures nine { are_intervals (map (λ z. zoom_range z z z) (0 ∷ 1 ∷ 2 ∷ 3 ∷ 4 ∷ 5 ∷ 6 ∷ 7 ∷ 8 ∷ [])) ≡ false }
-    ensures effective { map (λ zoom. shown_zoom zoom (zoom_range 10 8 11)) (5 ∷ 8 ∷ 11 ∷ 12 ∷ []) ≡ Some 8 ∷ Some 8 ∷ Some 11 ∷ None ∷ [] }
-    ensures members_in_order { map (λ f. f.id) (in_order (zoom_range 10 8 11) (numbered EntityKind.Node 1 11 ∷ numbered EntityKind.Node 2 5 ∷ numbered EntityKind.Node 3 8 ∷ numbered EntityKind.Way 4 9 ∷ numbered EntityKind.Relation 5 7 ∷ []))
+    ensures effective { map (λ zoom. effective_zoom zoom (zoom_range 10 8 11)) (5 ∷ 8 ∷ 11 ∷ 12 ∷ []) ≡ Some 8 ∷ Some 8 ∷ Some 11 ∷ None ∷ [] }
+    ensures members_in_order { map (λ f. f.id) (in_tile_order (zoom_range 10 8 11) (numbered EntityKind.Node 1 11 ∷ numbered EntityKind.Node 2 5 ∷ numbered EntityKind.Node 3 8 ∷ numbered EntityKind.Way 4 9 ∷ numbered EntityKind.Relation 5 7 ∷ []))
         ≡ 2 ∷ 3 ∷ 1 ∷ 5 ∷ 4 ∷ [] }
 {}
 
@@ -168,12 +173,12 @@ pub fn reports()
 /// The limit is passed above it and not at it, and what a job counts.
 #[tactic(auto, using(crate::proofs::MapRows::limit_rows), unfolding(crate::proofs::Compute::compute))]
 pub fn limits()
-    ensures at_the_limit { tile_limit 66 (settings_to 7) degree_box (replicate 6 bench) ≡ None }
-    ensures over_the_limit { tile_limit 64 (settings_to 7) degree_box (replicate 6 bench) ≡ Some (LimitFault.tile 0 0 0 66) }
-    ensures candidate_first { limit_fault 10 (settings_to 7) benches degree_box five_benches ≡ Some (LimitFault.feature EntityKind.Node 1 11) }
-    ensures then_tile { limit_fault 54 (settings_to 7) benches degree_box five_benches ≡ Some (LimitFault.tile 0 0 0 55) }
+    ensures at_the_limit { tile_limit_fault 66 (settings_to 7) degree_box (replicate 6 bench) ≡ None }
+    ensures over_the_limit { tile_limit_fault 64 (settings_to 7) degree_box (replicate 6 bench) ≡ Some (LimitFault.Tile 0 0 0 66) }
+    ensures candidate_first { limit_fault 10 (settings_to 7) benches degree_box five_benches ≡ Some (LimitFault.Feature EntityKind.Node 1 11) }
+    ensures then_tile { limit_fault 54 (settings_to 7) benches degree_box five_benches ≡ Some (LimitFault.Tile 0 0 0 55) }
     ensures none { limit_fault 55 (settings_to 7) benches degree_box five_benches ≡ None }
-    ensures sub_file { sub_file_limit (549755813887 ∷ 549755813888 ∷ []) ≡ Some (LimitFault.sub_file 1 549755813888) }
+    ensures sub_file { sub_file_limit_fault (549755813887 ∷ 549755813888 ∷ []) ≡ Some (LimitFault.SubFile 1 549755813888) }
     ensures forest { shape_size forests (forest_of 3 3 (outer 1 ∷ outer 2 ∷ outer 3 ∷ member_of 4 (codes "inner") ∷ [])) ≡ 6 + 10 + 4 + 24 }
     ensures forest_and_tile { job_size (settings_to 7) forests degree_box (forest_of 3 3 (outer 1 ∷ outer 2 ∷ outer 3 ∷ member_of 4 (codes "inner") ∷ [])) ≡ 44 + 1 + 24 }
 {}

@@ -10,7 +10,8 @@ use Rattle.mf_base.specs.Texts.{Text, begins, has_byte, is_among}
 use Rattle.mf_base.specs.Numbers.{number_in}
 use Rattle.mf_base.specs.Words.{equals}
 use Rattle.feature_model.specs.Mapping.{Entry}
-use Rattle.feature_model.specs.Entries.{MappingFault, keeps_entry_rule, keeps_kind_rule, is_short, entry_behind, entries_behind, mapping_told, told_poi}
+use Rattle.feature_model.specs.Entries.{keeps_entry_rule, keeps_kind_rule, is_short, entry_behind, entries_behind, mapping_told, told_poi}
+use Rattle.feature_model.specs.declared.fault.MappingFault.{MappingFault}
 use Rattle.pbf_frame.specs.FirstForm.{kept_keys}
 use Rattle.mfwrite.specs.FirstWords.{behind, only_poi, is_plain, plain_only, told_entry, first_entry, first_interval, first_date, last_date}
 use Rattle.mfwrite.specs.Shown.{plain_entry, of_a_zoom, plain_tag}

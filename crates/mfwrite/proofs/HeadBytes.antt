@@ -6,7 +6,7 @@ use Rattle.mf_base.specs.Buffer.{Buffer, AppendsTo}
 use Rattle.mf_base.specs.declared.place.Rect.{Rect}
 use Rattle.mf_base.proofs.OneSpelling.{vbe-small, length-vbe_unsigned-63}
 use Rattle.mf_base.proofs.ByteLaws.{length-big_endian}
-use Rattle.map_model.specs.Listed.{TagLists}
+use Rattle.map_model.specs.TagLists.{TagLists}
 use Rattle.map_model.specs.Header.{HeadSettings, SubFile, magic_word, mercator_word, box_bytes, interval_bytes, middle_bytes, fields_bytes, header_fields_bytes, written_header, header_size, header_bytes, sub_files}
 use Rattle.map_model.proofs.SizeLemmas.{length-fields}
 use Rattle.mfwrite.specs.FirstHead.{settings_of, tag_lists_of}

@@ -2,7 +2,8 @@
 use Rattle.std.proofs.Common.{◌≡◌, ℕ, ◌*◌, ◌≤◌, Bool, true, false, if◌then◌else◌, List, [], ◌++◌, length, map, refl, sym, ap, ◌∙◌, arith}
 use Rattle.std.specs.Prelude.{nat_le, min, max}
 use Rattle.std.proofs.lemmas.List.{length-map}
-use Rattle.map_model.specs.MapFile.{Report, report}
+use Rattle.map_model.specs.MapFile.{report}
+use Rattle.map_model.specs.declared.report.Report.{Report}
 use Rattle.pbf_frame.specs.FirstForm.{FirstValue, IsFirstForm, bounds_told, nodes_told}
 use Rattle.tile_body.specs.declared.first_tile.FirstPoi.{FirstPoi}
 use Rattle.tile_body.specs.FirstTile.{AreMembers, first_tile_bytes}

@@ -13,8 +13,10 @@ use Rattle.feature_model.specs.Mapping.{Entry, KeptValue}
 use Rattle.feature_model.specs.Choice.{choice, is_coast}
 use Rattle.feature_model.specs.Descriptions.{Description, description, texts_of, texts_length}
 use Rattle.feature_model.specs.Points.{Geometry, geometry_of}
-use Rattle.feature_model.specs.Features.{Candidate, candidate_of, candidates, by_kind, Shape, shape, shaped, weight, Feature, feature_of, features, skipped}
-use Rattle.feature_model.specs.Weights.{largest_candidate}
+use Rattle.feature_model.specs.Features.{Shape, shape, shaped, Feature, feature_of, features, skipped}
+use Rattle.feature_model.specs.Candidates.{Candidate, candidate_of, candidates, by_kind}
+use Rattle.feature_model.specs.Weights.{weight}
+use Rattle.feature_model.specs.Limits.{largest_candidate}
 use Rattle.pbf_frame.specs.declared.first_node.FirstNode.{FirstNode}
 use Rattle.pbf_frame.specs.FirstForm.{FirstValue, tag_told, nodes_told}
 use Rattle.mfwrite.specs.FirstWords.{FirstWords}

@@ -6,10 +6,11 @@ use Rattle.std.proofs.lemmas.Bool.{lt-ltb}
 use Rattle.std.proofs.lemmas.List.{length-map}
 use Rattle.mf_base.specs.declared.tile.TilePlace.{TilePlace}
 use Rattle.feature_model.specs.Features.{Feature, features}
-use Rattle.map_model.specs.Tiles.{interval_tiles, members, weight_of_tile}
+use Rattle.map_model.specs.Intervals.{interval_tiles}
+use Rattle.map_model.specs.Members.{members, weight_of_tile}
 use Rattle.map_model.specs.SubFile.{entry_bytes, water, contents, content_of, sub_file_of, sub_file_size}
 use Rattle.map_model.specs.Header.{HeadSettings, header_size, header_bytes, sub_files}
-use Rattle.map_model.specs.Listed.{TagLists}
+use Rattle.map_model.specs.TagLists.{TagLists}
 use Rattle.map_model.specs.MapFile.{all_contents, all_tiles, map_of_contents, map_of, map_file, report, shown_tiles, water_tiles, largest, largest_tile}
 use Rattle.map_model.specs.Samples.{world_tile, settings_to}
 use Rattle.map_model.proofs.World.{world_contents, world_members, world_tiles}

@@ -7,7 +7,8 @@ use Rattle.std.proofs.lemmas.List.Elements.{All-map}
 use Rattle.mf_base.specs.declared.tile.TilePlace.{TilePlace}
 use Rattle.feature_model.specs.Mapping.{Entry}
 use Rattle.feature_model.specs.Features.{Feature, features}
-use Rattle.map_model.specs.Tiles.{is_poi, is_way, effective_zoom, zooms, of_zoom, by_zoom, in_order, members, weight_of_tile}
+use Rattle.map_model.specs.Members.{is_poi, is_way, of_zoom, by_zoom, in_tile_order, members, weight_of_tile}
+use Rattle.map_model.specs.Intervals.{raised_zoom, zooms}
 use Rattle.map_model.specs.TileBytes.{poi_fields, tile_bytes}
 use Rattle.map_model.specs.SubFile.{covers, water, content_of}
 use Rattle.map_model.specs.Samples.{world_tile}
@@ -43,24 +44,24 @@ interval-is w h = λ i. record { base = sym h.base i; min = sym h.min i; max = w
 -- ---- members
 
 -- POIs of one zoom level are in order
-in_order-one : (max : ℕ) (e : Entry) (ns : List FirstNode) → e.zoom ≤ max → in_order (world_tile max).interval (map (feature_told e) ns) ≡ map (feature_told e) ns
-unfolding in_order
+in_order-one : (max : ℕ) (e : Entry) (ns : List FirstNode) → e.zoom ≤ max → in_tile_order (world_tile max).interval (map (feature_told e) ns) ≡ map (feature_told e) ns
+unfolding in_tile_order
 in_order-one max e ns low =
     let interval = (world_tile max).interval in
     let fs = map (feature_told e) ns in
     (λ i. by_zoom interval (filter-alike is_poi (feature_told e) true (λ n. refl) ns i) ++ by_zoom interval (filter-alike is_way (feature_told e) false (λ n. refl) ns i))
     ∙ (λ i. by_zoom interval fs ++ by_zoom-nil interval i)
     ∙ append-nil (by_zoom interval fs)
-    ∙ flat_map_ext (λ z. of_zoom interval z fs) (λ z. cond (effective_zoom interval e.zoom == z) fs []) (λ z. filter-alike (λ f. effective_zoom interval f.zoom == z) (feature_told e) (effective_zoom interval e.zoom == z) (λ n. refl) ns) (zooms interval)
-    ∙ once fs (effective_zoom interval e.zoom) (suc max - 0) 0 (omega arith) (omega (arith, low))
+    ∙ flat_map_ext (λ z. of_zoom interval z fs) (λ z. cond (raised_zoom interval e.zoom == z) fs []) (λ z. filter-alike (λ f. raised_zoom interval f.zoom == z) (feature_told e) (raised_zoom interval e.zoom == z) (λ n. refl) ns) (zooms interval)
+    ∙ once fs (raised_zoom interval e.zoom) (suc max - 0) 0 (omega arith) (omega (arith, low))
 
 pub members-told : (w : FirstWords) → AreFirstWords w → (v : FirstValue) → members (features (mapping w) (entities_told v)) (world_tile w.interval.max) ≡ map (feature_told w.entry) (shown w v)
-unfolding in_order
+unfolding in_tile_order
 members-told w h v =
     let max = w.interval.max in
     ap (λ fs. members fs (world_tile max)) (features-told w h v)
     ∙ world_members max (map (feature_told w.entry) (matching w v))
-    ∙ ap (in_order (world_tile max).interval) (filter-alike (λ f. nat_le f.zoom max && true) (feature_told w.entry) (nat_le w.entry.zoom max && true) (λ n. refl) (matching w v))
+    ∙ ap (in_tile_order (world_tile max).interval) (filter-alike (λ f. nat_le f.zoom max && true) (feature_told w.entry) (nat_le w.entry.zoom max && true) (λ n. refl) (matching w v))
     ∙ elim (cases_Bool (nat_le w.entry.zoom max)) [
       | inl low ↦ rw low (in_order-one max w.entry (matching w v) (leb-true w.entry.zoom max low))
       | inr above ↦ rw above (rw (by_zoom-nil (world_tile max).interval) refl)
@@ -108,5 +109,5 @@ are-members w v = rw (pois-shown w v) (below, level)
     same : All (λ (p : FirstPoi). p.zoom ≡ w.entry.zoom) (map (poi_of w) (shown w v))
     same = All-map (λ (p : FirstPoi). p.zoom ≡ w.entry.zoom) (poi_of w) (shown w v) (λ k d l. refl)
 
-    level : IsNonDecreasingBy (λ (p : FirstPoi). effective_zoom w.interval p.zoom) (map (poi_of w) (shown w v))
+    level : IsNonDecreasingBy (λ (p : FirstPoi). raised_zoom w.interval p.zoom) (map (poi_of w) (shown w v))
     level i j d le l = let a = same i d (omega (arith, le, l)) in let b = same j d l in rw (a, b) (omega arith)

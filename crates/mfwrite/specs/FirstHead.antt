@@ -3,7 +3,7 @@ use Rattle.std.specs.Prelude.{ℕ, [], ◌∷◌, None, false}
 use Rattle.mf_base.specs.Texts.{Text}
 use Rattle.mf_base.specs.declared.tile.Interval.{Interval}
 use Rattle.feature_model.specs.Mapping.{Mapping}
-use Rattle.map_model.specs.Listed.{TagLists, tag_lists}
+use Rattle.map_model.specs.TagLists.{TagLists, tag_lists}
 use Rattle.map_model.specs.Header.{HeadSettings}
 use Rattle.mfwrite.specs.declared.head.FirstHead.{FirstHead}
 

@@ -2,7 +2,7 @@
 use Rattle.std.specs.Prelude.{◌≡◌, ◌≤◌, ◌<◌, ◌^◌, ℕ, ◌+◌, ◌*◌, true, false, [], ◌∷◌, vec_capacity}
 use Rattle.feature_model.specs.Mapping.{Mapping}
 use Rattle.feature_model.specs.Entries.{is_short}
-use Rattle.map_model.specs.Listed.{TagLists, tag_lists}
+use Rattle.map_model.specs.TagLists.{TagLists, tag_lists}
 use Rattle.map_model.specs.Header.{HeadSettings}
 use Rattle.pbf_frame.specs.FirstForm.{first_limit}
 use Rattle.mfwrite.specs.FirstHead.{settings_from}

@@ -6,7 +6,8 @@ use Rattle.mf_base.specs.declared.place.Rect.{Rect}
 use Rattle.feature_model.specs.Mapping.{Entry}
 use Rattle.map_model.specs.Header.{header_size, header_bytes, sub_files}
 use Rattle.map_model.specs.SubFile.{entry_bytes}
-use Rattle.map_model.specs.MapFile.{Report, map_file, report}
+use Rattle.map_model.specs.MapFile.{map_file, report}
+use Rattle.map_model.specs.declared.report.Report.{Report}
 use Rattle.tile_body.specs.declared.first_tile.FirstPoi.{FirstPoi}
 use Rattle.tile_body.specs.FirstTile.{first_tile_bytes}
 use Rattle.pbf_frame.specs.declared.first_node.FirstNode.{FirstNode}

@@ -7,7 +7,7 @@ use Rattle.feature_model.specs.Entries.{is_short}
 use Rattle.mfwrite.specs.FirstWords as spec
 use Rattle.mfwrite.specs.declared.first_words.FirstWords.{FirstWords}
 use Rattle.pbf_frame.specs.FirstForm.{kept_keys}
-use Rattle.map_model.specs.MapFile.{Report}
+use Rattle.map_model.specs.declared.report.Report.{Report}
 use Rattle.mfwrite.specs.declared.report.Report as told
 use Rattle.mfwrite.specs.declared.status.TheConstants.{READ, WRITE, MEMORY, NOT_BUILT}
 use Rattle.mfwrite.specs.declared.status.Fault.{Fault}

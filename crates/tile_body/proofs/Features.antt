@@ -6,7 +6,9 @@ use Rattle.mf_base.specs.declared.place.Place.{Place}
 use Rattle.mf_base.specs.declared.tile.Interval.{Interval}
 use Rattle.mf_base.specs.declared.tile.TilePlace.{TilePlace}
 use Rattle.feature_model.specs.Features.{Feature}
-use Rattle.map_model.specs.Tiles.{is_poi, is_way, effective_zoom, zooms, of_zoom, sub_tile_bits}
+use Rattle.map_model.specs.Members.{is_poi, is_way, of_zoom}
+use Rattle.map_model.specs.Intervals.{raised_zoom, zooms}
+use Rattle.map_model.specs.Bitmap.{sub_tile_bits}
 use Rattle.map_model.specs.Layout.{Level, sized, levels_bytes, level_count_bytes, poi_fields_bytes, way_fields_bytes}
 use Rattle.map_model.specs.TileBytes.{poi_fields, way_fields, tile_corner, tile_bytes, written_level, written_levels}
 use Rattle.tile_body.specs.declared.first_tile.FirstPoi.{FirstPoi}
@@ -31,8 +33,8 @@ same-fields interval z [] [] h = refl
 same-fields interval z [] (f ∷ fs) h = absurd h
 same-fields interval z (p ∷ pois) [] h = absurd h
 same-fields interval z (p ∷ pois) (f ∷ fs) h =
-    ap (λ n. map poi_fields (cond (effective_zoom interval n == z) (f ∷ of_zoom interval z fs) (of_zoom interval z fs))) h.2
-    ∙ either (effective_zoom interval p.zoom == z) (same-fields interval z pois fs h.3)
+    ap (λ n. map poi_fields (cond (raised_zoom interval n == z) (f ∷ of_zoom interval z fs) (of_zoom interval z fs))) h.2
+    ∙ either (raised_zoom interval p.zoom == z) (same-fields interval z pois fs h.3)
   where
     either : (b : Bool) → map poi_fields (of_zoom interval z fs) ≡ map first_poi (at_zoom interval z pois) → map poi_fields (cond b (f ∷ of_zoom interval z fs) (of_zoom interval z fs)) ≡ map first_poi (cond b (p ∷ at_zoom interval z pois) (at_zoom interval z pois))
     either true rest = λ i. h.1 i ∷ rest i

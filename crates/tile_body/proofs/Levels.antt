@@ -10,25 +10,25 @@ use Rattle.mf_base.specs.Spelling.{vbe_unsigned}
 use Rattle.mf_base.specs.declared.place.Place.{Place}
 use Rattle.mf_base.specs.declared.tile.Interval.{Interval}
 use Rattle.map_model.proofs.LevelLemmas.{flat_map_nothing}
-use Rattle.map_model.specs.Tiles.{effective_zoom, zooms}
+use Rattle.map_model.specs.Intervals.{raised_zoom, zooms}
 use Rattle.map_model.specs.Layout.{Level, poi_fields_bytes, level_count_bytes}
 use Rattle.tile_body.specs.declared.first_tile.FirstPoi.{FirstPoi}
 use Rattle.tile_body.specs.FirstTile.{AreMembers, first_poi, first_level, counts_bytes, pois_bytes, left_open}
 
 -- the POIs of one effective zoom
 abbrev pub at_zoom : Interval → ℕ → List FirstPoi → List FirstPoi
-at_zoom interval z pois = filter (λ (p : FirstPoi). effective_zoom interval p.zoom == z) pois
+at_zoom interval z pois = filter (λ (p : FirstPoi). raised_zoom interval p.zoom == z) pois
 
-at_zoom-hit : (interval : Interval) (z : ℕ) (p : FirstPoi) (pois : List FirstPoi) → effective_zoom interval p.zoom ≡ z → at_zoom interval z (p ∷ pois) ≡ p ∷ at_zoom interval z pois
-at_zoom-hit interval z p pois e = ap (λ b. cond b (p ∷ at_zoom interval z pois) (at_zoom interval z pois)) (eq-eqb (effective_zoom interval p.zoom) z e)
+at_zoom-hit : (interval : Interval) (z : ℕ) (p : FirstPoi) (pois : List FirstPoi) → raised_zoom interval p.zoom ≡ z → at_zoom interval z (p ∷ pois) ≡ p ∷ at_zoom interval z pois
+at_zoom-hit interval z p pois e = ap (λ b. cond b (p ∷ at_zoom interval z pois) (at_zoom interval z pois)) (eq-eqb (raised_zoom interval p.zoom) z e)
 
-at_zoom-miss : (interval : Interval) (z : ℕ) (p : FirstPoi) (pois : List FirstPoi) → effective_zoom interval p.zoom ≢ z → at_zoom interval z (p ∷ pois) ≡ at_zoom interval z pois
-at_zoom-miss interval z p pois e = ap (λ b. cond b (p ∷ at_zoom interval z pois) (at_zoom interval z pois)) (ne_eqb (effective_zoom interval p.zoom) z e)
+at_zoom-miss : (interval : Interval) (z : ℕ) (p : FirstPoi) (pois : List FirstPoi) → raised_zoom interval p.zoom ≢ z → at_zoom interval z (p ∷ pois) ≡ at_zoom interval z pois
+at_zoom-miss interval z p pois e = ap (λ b. cond b (p ∷ at_zoom interval z pois) (at_zoom interval z pois)) (ne_eqb (raised_zoom interval p.zoom) z e)
 
 -- the effective zooms never fall from z on, and are at most top
 abbrev pub RiseFrom : Interval → (z top : ℕ) → List FirstPoi → Type 0
 RiseFrom interval z top [] = ⊤
-RiseFrom interval z top (p ∷ pois) = (z ≤ effective_zoom interval p.zoom) × (effective_zoom interval p.zoom ≤ top) × RiseFrom interval (effective_zoom interval p.zoom) top pois
+RiseFrom interval z top (p ∷ pois) = (z ≤ raised_zoom interval p.zoom) × (raised_zoom interval p.zoom ≤ top) × RiseFrom interval (raised_zoom interval p.zoom) top pois
 
 pub rise-from_less : (interval : Interval) (y z top : ℕ) (pois : List FirstPoi) → y ≤ z → RiseFrom interval z top pois → RiseFrom interval y top pois
 rise-from_less interval y z top [] le h = tt
@@ -39,10 +39,10 @@ at_zoom-none : (interval : Interval) (y z top : ℕ) (pois : List FirstPoi) → 
 at_zoom-none interval y z top [] less h = refl
 at_zoom-none interval y z top (p ∷ pois) less h =
     at_zoom-miss interval y p pois (λ e. absurd (omega (arith, e, less, h.0)))
-    ∙ at_zoom-none interval y z top pois less (rise-from_less interval z (effective_zoom interval p.zoom) top pois h.0 h.2)
+    ∙ at_zoom-none interval y z top pois less (rise-from_less interval z (raised_zoom interval p.zoom) top pois h.0 h.2)
 
 -- levels above a POI's have nothing of it
-levels-skip : {X : Type 0} (g : List FirstPoi → List X) (interval : Interval) (p : FirstPoi) (pois : List FirstPoi) (k z : ℕ) → effective_zoom interval p.zoom < z
+levels-skip : {X : Type 0} (g : List FirstPoi → List X) (interval : Interval) (p : FirstPoi) (pois : List FirstPoi) (k z : ℕ) → raised_zoom interval p.zoom < z
     → flat_map (λ y. g (at_zoom interval y (p ∷ pois))) (range_with_len z k) ≡ flat_map (λ y. g (at_zoom interval y pois)) (range_with_len z k)
 levels-skip g interval p pois zero z less = refl
 levels-skip g interval p pois (suc k) z less =
@@ -55,7 +55,7 @@ levels-skip g interval p pois (suc k) z less =
 bytes_of : Place → List FirstPoi → List ℕ
 bytes_of corner pois = flat_map (poi_fields_bytes corner) (map first_poi pois)
 
-levels-first : (corner : Place) (interval : Interval) (top : ℕ) (p : FirstPoi) (pois : List FirstPoi) (n k z : ℕ) → n < k → effective_zoom interval p.zoom ≡ z + n → RiseFrom interval (effective_zoom interval p.zoom) top pois
+levels-first : (corner : Place) (interval : Interval) (top : ℕ) (p : FirstPoi) (pois : List FirstPoi) (n k z : ℕ) → n < k → raised_zoom interval p.zoom ≡ z + n → RiseFrom interval (raised_zoom interval p.zoom) top pois
     → flat_map (λ y. bytes_of corner (at_zoom interval y (p ∷ pois))) (range_with_len z k) ≡ poi_fields_bytes corner (first_poi p) ++ flat_map (λ y. bytes_of corner (at_zoom interval y pois)) (range_with_len z k)
 unfolding bytes_of
 levels-first corner interval top p pois n zero z less e h = absurd (omega (arith, less))
@@ -66,7 +66,7 @@ levels-first corner interval top p pois zero (suc k) z less e h =
     ∙ append_assoc (poi_fields_bytes corner (first_poi p)) (bytes_of corner (at_zoom interval z pois)) (flat_map (λ y. bytes_of corner (at_zoom interval y pois)) (range_with_len (z + 1) k))
 levels-first corner interval top p pois (suc n) (suc k) z less e h =
     let here = at_zoom-miss interval z p pois (λ same. absurd (omega (arith, e, same))) in
-    let none = at_zoom-none interval z (effective_zoom interval p.zoom) top pois (omega (arith, e)) h in
+    let none = at_zoom-none interval z (raised_zoom interval p.zoom) top pois (omega (arith, e)) h in
     let rest = levels-first corner interval top p pois n k (z + 1) (omega (arith, less)) (omega (arith, e)) h in
     (λ i. bytes_of corner ((here ∙ none) i) ++ rest i) ∙ (λ i. poi_fields_bytes corner (first_poi p) ++ (bytes_of corner (sym none i) ++ flat_map (λ y. bytes_of corner (at_zoom interval y pois)) (range_with_len (z + 1) k)))
 
@@ -76,10 +76,10 @@ levels-all : (corner : Place) (interval : Interval) (z k top : ℕ) (pois : List
 unfolding bytes_of pois_bytes
 levels-all corner interval z k top [] less h = flat_map_nothing (range_with_len z k)
 levels-all corner interval z k top (p ∷ pois) less h =
-    let e = effective_zoom interval p.zoom in
-    let at : effective_zoom interval p.zoom ≡ z + (effective_zoom interval p.zoom - z) = omega (arith, h.0) in
-    levels-first corner interval top p pois (effective_zoom interval p.zoom - z) k z (omega (arith, h.0, h.1, less)) at h.2
-    ∙ ap (λ l. poi_fields_bytes corner (first_poi p) ++ l) (levels-all corner interval z k top pois less (rise-from_less interval z (effective_zoom interval p.zoom) top pois h.0 h.2))
+    let e = raised_zoom interval p.zoom in
+    let at : raised_zoom interval p.zoom ≡ z + (raised_zoom interval p.zoom - z) = omega (arith, h.0) in
+    levels-first corner interval top p pois (raised_zoom interval p.zoom - z) k z (omega (arith, h.0, h.1, less)) at h.2
+    ∙ ap (λ l. poi_fields_bytes corner (first_poi p) ++ l) (levels-all corner interval z k top pois less (rise-from_less interval z (raised_zoom interval p.zoom) top pois h.0 h.2))
 
 -- ---- the zoom table
 
@@ -98,7 +98,7 @@ counted-none interval z more pois =
     λ i. (vbe_unsigned (n i) ++ vbe_unsigned 0) ++ table interval (z + 1) more pois
 
 -- one POI more of this level
-pub counted-count : (interval : Interval) (z more count : ℕ) (p : FirstPoi) (pois : List FirstPoi) → effective_zoom interval p.zoom ≡ z → counted interval z more count (p ∷ pois) ≡ counted interval z more (count + 1) pois
+pub counted-count : (interval : Interval) (z more count : ℕ) (p : FirstPoi) (pois : List FirstPoi) → raised_zoom interval p.zoom ≡ z → counted interval z more count (p ∷ pois) ≡ counted interval z more (count + 1) pois
 unfolding counted table
 counted-count interval z more count p pois e =
     let hit = ap length (at_zoom-hit interval z p pois e) in
@@ -177,10 +177,10 @@ pois-are corner interval pois some h =
 pub members-rise : (interval : Interval) (pois : List FirstPoi) → interval.min ≤ interval.max → AreMembers interval pois → RiseFrom interval interval.min interval.max pois
 members-rise interval pois some h = rise pois interval.min (λ k d l. omega arith) h.0 h.1
   where
-    rise : (ps : List FirstPoi) (z : ℕ) → All (λ (p : FirstPoi). z ≤ effective_zoom interval p.zoom) ps → All (λ (p : FirstPoi). p.zoom ≤ interval.max) ps → IsNonDecreasingBy (λ (p : FirstPoi). effective_zoom interval p.zoom) ps → RiseFrom interval z interval.max ps
+    rise : (ps : List FirstPoi) (z : ℕ) → All (λ (p : FirstPoi). z ≤ raised_zoom interval p.zoom) ps → All (λ (p : FirstPoi). p.zoom ≤ interval.max) ps → IsNonDecreasingBy (λ (p : FirstPoi). raised_zoom interval p.zoom) ps → RiseFrom interval z interval.max ps
     rise [] z above below up = tt
     rise (p ∷ ps) z above below up = (
       above 0 p (omega arith),
       (let b = below 0 p (omega arith) in omega (arith, b, some)),
-      rise ps (effective_zoom interval p.zoom) (λ k d l. up 0 (suc k) d (omega arith) (omega (arith, l))) (λ k d l. below (suc k) d (omega (arith, l))) (λ i j d le l. up (suc i) (suc j) d (omega (arith, le)) (omega (arith, l))),
+      rise ps (raised_zoom interval p.zoom) (λ k d l. up 0 (suc k) d (omega arith) (omega (arith, l))) (λ k d l. below (suc k) d (omega (arith, l))) (λ i j d le l. up (suc i) (suc j) d (omega (arith, le)) (omega (arith, l))),
     )

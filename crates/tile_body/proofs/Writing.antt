@@ -9,7 +9,7 @@ use Rattle.mf_base.specs.declared.tile.TilePlace.{TilePlace}
 use Rattle.feature_model.specs.Features.{Feature}
 use Rattle.map_model.specs.TileBytes.{tile_corner, tile_bytes}
 use Rattle.std.specs.Prelude.{flat_map, map, false, ◌==◌}
-use Rattle.map_model.specs.Tiles.{effective_zoom, zooms}
+use Rattle.map_model.specs.Intervals.{raised_zoom, zooms}
 use Rattle.map_model.specs.Layout.{poi_fields_bytes, level_count_bytes, sized}
 use Rattle.tile_body.specs.declared.first_tile.FirstPoi.{FirstPoi}
 use Rattle.tile_body.specs.FirstTile.{AreMembers, StandFor, first_poi, first_level, first_tile_bytes, counts_bytes, left_open, pois_bytes}
@@ -121,13 +121,13 @@ table-none first interval corner pois some h =
 
 -- the POI at the loop's place, and the levels to it
 pub record NextPoi (interval : Interval) (zoom : ℕ) (p : FirstPoi) (rest : List FirstPoi) : Type 0 where
-  pub at : zoom + (p.zoom - zoom) ≡ effective_zoom interval p.zoom
+  pub at : zoom + (p.zoom - zoom) ≡ raised_zoom interval p.zoom
   pub within : zoom + (p.zoom - zoom) ≤ interval.max
-  pub rise : RiseFrom interval (effective_zoom interval p.zoom) interval.max rest
+  pub rise : RiseFrom interval (raised_zoom interval p.zoom) interval.max rest
 
 next-poi : (interval : Interval) (zoom : ℕ) (p : FirstPoi) (rest : List FirstPoi) → interval.min ≤ zoom → RiseFrom interval zoom interval.max (p ∷ rest) → NextPoi interval zoom p rest
 next-poi interval zoom p rest from h =
-    let at : zoom + (p.zoom - zoom) ≡ effective_zoom interval p.zoom = omega (arith, from, h.0) in
+    let at : zoom + (p.zoom - zoom) ≡ raised_zoom interval p.zoom = omega (arith, from, h.0) in
     record { at = at; within = omega (arith, at, h.1); rise = h.2 }
 
 pub left-less : (count n : ℕ) → left_open count n ≤ count
@@ -163,7 +163,7 @@ table-more now next first interval corner pois i zoom count total size d less h 
     let from = h.from in
     record {
       completes = completes-more now next first (counts_bytes count n) (counted interval (zoom + n) more (left_open count n + 1) rest) (table interval interval.min (suc interval.max - interval.min) pois) (rw opened at h.completes) put;
-      rise = rise-from_less interval (zoom + n) (effective_zoom interval p.zoom) interval.max rest (omega (arith, step.at)) step.rise;
+      rise = rise-from_less interval (zoom + n) (raised_zoom interval p.zoom) interval.max rest (omega (arith, step.at)) step.rise;
       from = omega (arith, from);
       within = within;
       few = omega (arith, few, less_left);

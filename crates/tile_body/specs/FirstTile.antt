@@ -6,7 +6,8 @@ use Rattle.mf_base.specs.declared.place.Place.{Place}
 use Rattle.mf_base.specs.declared.tile.Interval.{Interval}
 use Rattle.feature_model.specs.Mapping.{KeptValue}
 use Rattle.feature_model.specs.Features.{Feature}
-use Rattle.map_model.specs.Tiles.{is_poi, effective_zoom, zooms}
+use Rattle.map_model.specs.Members.{is_poi}
+use Rattle.map_model.specs.Intervals.{raised_zoom, zooms}
 use Rattle.map_model.specs.Layout.{PoiFields, Level, poi_fields_bytes, levels_bytes}
 use Rattle.map_model.specs.TileBytes.{poi_fields}
 use Rattle.tile_body.specs.declared.first_tile.FirstPoi.{FirstPoi}
@@ -17,7 +18,7 @@ first_poi p = record { place = p.place; layer = pos 0; tags = record { tag = 0; 
 
 -- the POIs may be the members of a tile, in this order: each zoom is at most the maximum, and the effective zooms never fall
 abbrev pub AreMembers : Interval → List FirstPoi → Type 0
-AreMembers interval pois = All (λ (p : FirstPoi). p.zoom ≤ interval.max) pois × IsNonDecreasingBy (λ (p : FirstPoi). effective_zoom interval p.zoom) pois
+AreMembers interval pois = All (λ (p : FirstPoi). p.zoom ≤ interval.max) pois × IsNonDecreasingBy (λ (p : FirstPoi). raised_zoom interval p.zoom) pois
 
 -- the features are these POIs one by one: each is a POI, and the fields and the zoom are the same
 abbrev pub StandFor : List FirstPoi → List Feature → Type 0
@@ -27,7 +28,7 @@ StandFor _ _ = ⊥
 
 -- what is written of the POIs of one effective zoom
 abbrev pub first_level : Interval → List FirstPoi → ℕ → Level
-first_level interval pois zoom = record { pois = map first_poi (filter (λ (p : FirstPoi). effective_zoom interval p.zoom == zoom) pois); ways = [] }
+first_level interval pois zoom = record { pois = map first_poi (filter (λ (p : FirstPoi). raised_zoom interval p.zoom == zoom) pois); ways = [] }
 
 -- the bytes of a tile with this corner whose members are these POIs; without members it takes none
 unfoldable pub first_tile_bytes : Interval → Place → List FirstPoi → List ℕ

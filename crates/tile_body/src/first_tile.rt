@@ -5,7 +5,7 @@ ghost use Rattle.mf_base.specs.Buffer.{HasRoom, AppendsTo};
 ghost use Rattle.mf_base.specs.Spelling.{vbe_unsigned};
 ghost use Rattle.mf_base.specs.declared.tile.TilePlace.{TilePlace};
 ghost use Rattle.feature_model.specs.Features.{Feature};
-ghost use Rattle.map_model.specs.Tiles.{zooms};
+ghost use Rattle.map_model.specs.Intervals.{zooms};
 ghost use Rattle.map_model.specs.Layout.{poi_fields_bytes, level_count_bytes};
 ghost use Rattle.map_model.specs.TileBytes.{tile_corner, tile_bytes};
 ghost use Rattle.tile_body.specs.FirstTile.{AreMembers, StandFor, first_poi, first_level, first_tile_bytes, counts_bytes, left_open, pois_bytes};

@@ -1,7 +1,7 @@
 //! Worked rows: the tile of one bench.
 
 ghost use Rattle.std.specs.Prelude.{◌≡◌, ◌++◌, [], ◌∷◌, replicate};
-ghost use Rattle.map_model.specs.Tiles.{origin};
+ghost use Rattle.map_model.specs.Rectangles.{origin};
 ghost use Rattle.map_model.specs.Samples.{zoom_range, world_corner, to_origin, bench};
 ghost use Rattle.tile_body.specs.FirstTile.{AreMembers, StandFor, first_tile_bytes};
 

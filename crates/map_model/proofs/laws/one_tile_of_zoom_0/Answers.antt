@@ -1,5 +1,5 @@
 use Rattle.std.proofs.Common.{refl}
-use Rattle.map_model.specs.Tiles.{tiles_of}
+use Rattle.map_model.specs.TileRects.{tiles_of}
 use Rattle.map_model.proofs.MercatorLemmas.{row-zero}
 use Rattle.map_model.proofs.World.{column-zero, corner-world, tile_rect-zero, meets-zero}
 use Rattle.map_model.proofs.laws.one_tile_of_zoom_0.Goals as goal
