@@ -13,3 +13,4 @@ pub mod BigBytes
 pub mod ByteLaws
 pub mod ListLaws
 pub mod SignLaws
+pub mod Ordered

@@ -8,3 +8,4 @@ pub mod Tags
 pub mod Numbers
 pub mod Words
 pub mod Root
+pub mod Ascending

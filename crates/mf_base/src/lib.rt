@@ -8,6 +8,7 @@ pub mod kept;
 pub mod kind;
 pub mod laws;
 pub mod number;
+pub mod order_laws;
 pub mod out_buf;
 pub mod place;
 pub mod rows;
