@@ -1,3 +1,5 @@
 pub mod Adapters
 pub mod Device
 pub mod Memory
+pub mod Spill
+pub mod MemoryStore

@@ -1,0 +1,172 @@
+//! A store in memory.
+
+ghost use Rattle.std.specs.Prelude.{◌≡◌, ◌≢◌, ℕ, ◌+◌, ◌*◌, ◌<◌, ◌≤◌, true, false, length, Some, None, IfOk, OnOk, OnErr, IsSome};
+ghost use Rattle.mf_edge.specs.MemoryStore.{new_store};
+
+use crate::calls::Calls;
+use crate::memory_order::ordered;
+use crate::memory_parts::Parts;
+use crate::{Failed, Spill, Steps};
+use mf_base::out_buf::OutBuf;
+use std::alloc::{AllocError, Global};
+use std::marker::Model;
+use std::sync::ledger::Ledger;
+
+const PART_LIMIT: usize = 1 << 62;
+
+const LONGEST_NAME: usize = 4095;
+
+/// Parts in memory. Listed calls fail, and those for which no memory is found.
+#[derive(Drop)]
+pub struct MemSpill {
+    alloc: Global,
+    parts: Parts,
+    calls: Calls,
+    name: OutBuf,
+    is_named: bool,
+    is_started: bool,
+    is_overrun: bool,
+    // Whether it tells its bytes.
+    tells: bool,
+    // The read that answers zeros is so many reads ahead. 0: none is.
+    until_zeros: u64,
+}
+
+impl Model for MemSpill {
+    ghost use Rattle.std.specs.Prelude.{◌≡◌, if◌then◌else◌, Some, None};
+    ghost use Rattle.mf_edge.specs.MemoryStore.{MemoryStore};
+
+    ghost Value = { MemoryStore };
+
+    ghost view = { λ s. record { name = if s.is_named then Some s.name.bytes else None; is_started = s.is_started; tells = s.tells; is_overrun = s.is_overrun; parts = s.parts; calls = s.calls; until_zeros = s.until_zeros } };
+
+    ghost invariant = { λ s. s.name.capacity ≡ 4095 };
+}
+
+impl MemSpill {
+    /// A store that tells its bytes. `fails` has the numbers of the calls that fail, counted from 1; calls of `forget`
+    /// and `damaged` have no number.
+    pub fn new(alloc: Global, fails: &[u64]) -> Result<MemSpill, AllocError>
+        ensures { IfOk result (λ s. s ≡ new_store true fails.now 0) }
+    {
+        MemSpill::with(alloc, fails, true, 0)
+    }
+
+    /// A store that does not tell its bytes. Its read with number `zeros`, counted from 1, answers zeros; 0: none does.
+    pub fn untold(alloc: Global, fails: &[u64], zeros: u64) -> Result<MemSpill, AllocError>
+        ensures { IfOk result (λ s. s ≡ new_store false fails.now zeros) }
+    {
+        MemSpill::with(alloc, fails, false, zeros)
+    }
+
+    fn with(alloc: Global, fails: &[u64], tells: bool, zeros: u64) -> Result<MemSpill, AllocError>
+        ensures { IfOk result (λ s. s ≡ new_store tells fails.now zeros) }
+    {
+        Ok(MemSpill {
+            alloc,
+            parts: Parts::new(alloc),
+            calls: Calls::new(alloc, fails)?,
+            name: OutBuf::new(alloc, LONGEST_NAME)?,
+            is_named: false,
+            is_started: false,
+            is_overrun: false,
+            tells,
+            until_zeros: zeros,
+        })
+    }
+}
+
+impl Spill for MemSpill {
+    ghost use Rattle.mf_edge.specs.MemoryStore.{told};
+
+    ghost state = { told };
+
+    fn start(&mut self, dir: &str) -> Result<(), Failed> {
+        self.name.clear();
+        self.name.put(dir.as_bytes());
+        self.is_named = true;
+        self.is_overrun = false;
+        self.is_started = false;
+        self.parts.clear();
+        if self.calls.fails_now() {
+            return Err(Failed);
+        }
+        self.is_started = true;
+        Ok(())
+    }
+
+    fn make(&mut self) -> Result<u32, Failed> {
+        if self.calls.fails_now() {
+            return Err(Failed);
+        }
+        match self.parts.make(self.alloc) {
+            Some(part) => Ok(part),
+            None => {
+                self.calls.count_fault();
+                Err(Failed)
+            }
+        }
+    }
+
+    fn append(&mut self, part: u32, bytes: &[u8]) -> Result<(), Failed> {
+        let is_past = self.parts.bytes(part).len() + bytes.len() > PART_LIMIT;
+        self.is_overrun = self.is_overrun || is_past;
+        if self.calls.fails_now() {
+            return Err(Failed);
+        }
+        if !is_past && self.parts.append(part, bytes) {
+            Ok(())
+        } else {
+            self.calls.count_fault();
+            Err(Failed)
+        }
+    }
+
+    fn read<L: Ledger>(
+        &mut self,
+        part: u32,
+        at: u64,
+        out: &mut [u8],
+        steps: &mut Steps<L>,
+    ) -> Result<(), Failed> {
+        steps.ticks(out.len() as u64);
+        let zeros = !self.tells && self.until_zeros == 1;
+        self.until_zeros = self.until_zeros.saturating_sub(1);
+        if self.calls.fails_now() {
+            return Err(Failed);
+        }
+        if zeros {
+            out.fill(0);
+            return Ok(());
+        }
+        let start = at as usize;
+        let bytes = self.parts.bytes(part);
+        out.copy_from_slice(&bytes[start..start + out.len()]);
+        Ok(())
+    }
+
+    fn order(&mut self, part: u32, width: u32) -> Result<(), Failed> {
+        if self.calls.fails_now() {
+            return Err(Failed);
+        }
+        match ordered(self.alloc, self.parts.bytes(part), width as usize) {
+            Ok(bytes) => {
+                self.parts.set(part, bytes);
+                Ok(())
+            }
+            Err(_) => {
+                self.calls.count_fault();
+                Err(Failed)
+            }
+        }
+    }
+
+    fn forget(&mut self, part: u32) {
+        self.parts.forget(part);
+    }
+
+    fn damaged(&mut self) -> Failed {
+        self.calls.count_fault();
+        Failed
+    }
+}
