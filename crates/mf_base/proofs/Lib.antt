@@ -6,6 +6,9 @@ pub mod OneSpelling
 pub mod Opened
 pub mod Runs
 pub mod NumberLemmas
+pub mod PackedLaws
+pub mod PackedFront
+pub mod EntryLaws
 pub mod Compute
 pub mod Roots
 pub mod WordLaws

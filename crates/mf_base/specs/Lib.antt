@@ -3,8 +3,12 @@ pub mod Buffer
 pub mod Ranges
 pub mod Spelling
 pub mod NumberReading
+pub mod Packed
 pub mod Texts
 pub mod Tags
+pub mod Entries
+pub mod TagLists
+pub mod TagCursor
 pub mod Numbers
 pub mod Words
 pub mod Root

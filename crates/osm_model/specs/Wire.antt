@@ -1,13 +1,14 @@
 -- Varints, fields and messages: Protocol Buffers, "Encoding", on base 128 varints, message structure and packed fields.
-use Rattle.std.specs.Prelude.{◌≡◌, ℕ, zero, suc, ◌+◌, ◌-◌, ◌*◌, ◌/◌, ◌%◌, ◌^◌, ◌<◌, ◌≤◌, Bool, true, false, ◌&&◌, ◌==◌, nat_lt, nat_le, if◌then◌else◌, List, [], ◌∷◌, ◌++◌, length, take, drop, map, Option, Some, None, ◌≢◌, Result, Ok, Err, ℤ}
-use Rattle.std.specs.List.{list_all}
+use Rattle.std.specs.Prelude.{◌≡◌, ℕ, zero, suc, ◌+◌, ◌-◌, ◌*◌, ◌/◌, ◌%◌, ◌^◌, ◌<◌, ◌≤◌, ◌&&◌, ◌==◌, nat_lt, nat_le, if◌then◌else◌, List, [], ◌∷◌, ◌++◌, length, take, drop, Option, Some, None, ◌≢◌, Result, Ok, Err, ℤ}
 use Rattle.std.specs.Int.{w64, cast_signed}
-use Rattle.mf_base.specs.Spelling.{IsVarint, high_run, sevens}
+use Rattle.mf_base.specs.Spelling.{IsVarint}
 use Rattle.mf_base.specs.Steps.{◌>>=◌, require, told_as}
 use Rattle.mf_base.specs.NumberReading.{varint_front}
 use Rattle.osm_model.specs.declared.limits.TheConstants.{FIELD_NUMBER_LIMIT}
 use Rattle.osm_model.specs.declared.faults.WireFault.{WireFault}
 use Rattle.osm_model.specs.declared.faults.WireFault.TheVariants.{Varint, Length, Kind}
+unfoldable pub use Rattle.mf_base.specs.Packed.{runs}
+pub use Rattle.mf_base.specs.Packed.{before_first, is_varint, are_varints, packed_numbers}
 use Rattle.osm_model.specs.Reading.{Reading, AreSpelled, all_read, stops_at, then_reads}
 
 -- The value of a field, under the name of its wire type: VARINT 0, I64 1, LEN 2, I32 5.
@@ -119,28 +120,6 @@ pub record ReadsFields (bytes : List ℕ) (read : Reading Field WireFault) : Typ
   pub whole : bytes ≡ front ++ rest
   pub spelled : IsMessage front read.items
   pub ended : FieldsEnd rest read.fault
-
--- the runs with one more byte before the first
-abbrev pub before_first : ℕ → List (List ℕ) → List (List ℕ)
-before_first b [] = (b ∷ []) ∷ []
-before_first b (run ∷ runs) = (b ∷ run) ∷ runs
-
--- the bytes, cut after each that has no top bit
-unfoldable pub runs : List ℕ → List (List ℕ)
-runs [] = []
-runs (b ∷ rest) = elim (nat_lt b 128) [ true ↦ (b ∷ []) ∷ runs rest | false ↦ before_first b (runs rest) ]
-
--- the run is a varint: at most ten bytes, of which the last alone has no top bit, and a number below 2^64
-abbrev pub is_varint : List ℕ → Bool
-is_varint run = (length run == suc (high_run run)) && nat_le (length run) 10 && nat_lt (sevens run) (2 ^ 64)
-
--- the bytes are whole varints
-abbrev pub are_varints : List ℕ → Bool
-are_varints bytes = list_all is_varint (runs bytes)
-
--- the numbers of whole varints, seven bits of each byte, the lowest first
-abbrev pub packed_numbers : List ℕ → List ℕ
-packed_numbers bytes = map sevens (runs bytes)
 
 -- the number that an int64 spells: two's complement of 64 bits
 abbrev pub int64 : ℕ → ℤ
