@@ -1,5 +1,5 @@
 -- What is told of an object has its kind and its id.
-use Rattle.std.proofs.Common.{◌≡◌, ◌==◌, ◌&&◌, ℕ, List, [], ◌∷◌, ◌++◌, refl, subst, true, false, Bool, cond, Result, Ok, Err, Option, Some, None, ℤ, length}
+use Rattle.std.proofs.Common.{pos, ◌≡◌, ◌==◌, ◌&&◌, ℕ, List, [], ◌∷◌, ◌++◌, refl, subst, true, false, Bool, cond, Result, Ok, Err, Option, Some, None, ℤ, length}
 use Rattle.std.specs.Prelude.{nat_abs, flat_map}
 use Rattle.std.specs.List.{AllByRecursion, list_all}
 use Rattle.mf_base.specs.declared.kind.EntityKind.{EntityKind}
@@ -15,7 +15,7 @@ use Rattle.osm_model.specs.declared.faults.EntityFault.TheVariants as entity_fau
 use Rattle.osm_model.specs.Wire.{Field}
 use Rattle.osm_model.specs.Tables.{message, counted_bytes, packed_of, packed_sint64_of}
 use Rattle.osm_model.specs.Blocks.{BlockHead, PrimitiveBlock, is_coordinate, place_of}
-use Rattle.osm_model.specs.Objects.{sint64_at, int64_at, with_list, empty_run, indexed_tags, run_tags, running_sums, members_of, runs_of, zip_three, Object, TagRun, node_of, node_object, dense_node, with_runs, dense_columns, dense_objects, way_of, way_object, relation_of, relation_object, objects_at, field_objects, group_fields, group_objects, block_objects}
+use Rattle.osm_model.specs.Objects.{sint64_at, int64_at, indexed_tags, run_tags, running_sums, running_sums_from, members_of, runs_of, first_run, other_runs, left_over, zip_three, Object, TagRun, node_of, node_object, dense_node, with_runs, dense_from, dense_columns, dense_objects, way_of, way_object, relation_of, relation_object, objects_at, field_objects, group_fields, group_objects, block_objects}
 use Rattle.osm_model.specs.Entities.{Member, Entity, node, way, relation, kind_of, id_of}
 
 -- what an object is has its kind and its id
@@ -100,12 +100,19 @@ dense_tells b (id, lat, lon) run object h =
 abbrev pub AllTell : List (Result Object EntityFault) → Type 0
 AllTell objects = AllByRecursion Tells objects
 
-with_runs_tell : (b : PrimitiveBlock) (ns : List (ℤ × ℤ × ℤ)) (runs : List TagRun) → AllTell (with_runs b ns runs)
+left_over_tells : (runs : Option (List TagRun)) → AllTell (left_over runs)
+left_over_tells None = tt
+left_over_tells (Some []) = tt
+left_over_tells (Some (run ∷ runs)) = (tells_err entity_faults.Columns, tt)
+
+with_runs_tell : (b : PrimitiveBlock) (ns : List (ℤ × ℤ × ℤ)) (runs : Option (List TagRun)) → AllTell (with_runs b ns runs)
 unfolding with_runs
-with_runs_tell b [] [] = tt
-with_runs_tell b [] (run ∷ runs) = (tells_err entity_faults.Columns, tt)
-with_runs_tell b (n ∷ ns) [] = (dense_tells b n (empty_run with_list), with_runs_tell b ns [])
-with_runs_tell b (n ∷ ns) (run ∷ runs) = (dense_tells b n run, with_runs_tell b ns runs)
+with_runs_tell b [] runs = left_over_tells runs
+with_runs_tell b (n ∷ ns) runs = (dense_tells b n (first_run runs), with_runs_tell b ns (other_runs runs))
+
+from_tells : (b : PrimitiveBlock) (n : ℤ × ℤ × ℤ) (ids lats lons : List ℤ) (runs : Option (List TagRun)) → AllTell (dense_from b n ids lats lons runs)
+unfolding dense_from
+from_tells b (id, lat, lon) ids lats lons runs = with_runs_tell b (zip_three (running_sums_from id ids) (running_sums_from lat lats) (running_sums_from lon lons)) runs
 
 either : (c : Bool) (xs ys : List (Result Object EntityFault)) → AllTell xs → AllTell ys → AllTell (cond c xs ys)
 either true xs ys h k = h
@@ -114,8 +121,9 @@ either false xs ys h k = k
 columns_tell : (b : PrimitiveBlock) (ids lats lons : List ℤ) (keys_vals : List ℕ) → AllTell (dense_columns b ids lats lons keys_vals)
 unfolding dense_columns
 columns_tell b ids lats lons keys_vals =
-    either ((length ids == length lats) && (length ids == length lons)) (with_runs b (zip_three (running_sums ids) (running_sums lats) (running_sums lons)) (runs_of (length ids) keys_vals)) (Err entity_faults.Columns ∷ [])
-    (with_runs_tell b (zip_three (running_sums ids) (running_sums lats) (running_sums lons)) (runs_of (length ids) keys_vals)) (tells_err entity_faults.Columns, tt)
+    let zero : ℤ × ℤ × ℤ = (pos 0, pos 0, pos 0) in
+    either ((length ids == length lats) && (length ids == length lons)) (dense_from b zero ids lats lons (runs_of keys_vals)) (Err entity_faults.Columns ∷ [])
+    (from_tells b zero ids lats lons (runs_of keys_vals)) (tells_err entity_faults.Columns, tt)
 
 abbrev dense_parts : PrimitiveBlock → Result (List Field) MessageFault → List (Result Object EntityFault)
 dense_parts b r = elim r [ Ok parts ↦ dense_columns b (packed_sint64_of 1 parts) (packed_sint64_of 8 parts) (packed_sint64_of 9 parts) (packed_of 10 parts) | Err fault ↦ Err (entity_faults.Wire fault) ∷ [] ]

@@ -1,5 +1,5 @@
 -- The objects of a block: the OpenStreetMap wiki, "PBF Format", on PrimitiveGroup, Node, DenseNodes, Way and Relation.
-use Rattle.std.specs.Prelude.{◌<◌, ℕ, zero, suc, Bool, true, ◌&&◌, ◌==◌, nat_le, if◌then◌else◌, List, [], ◌∷◌, length, map, zip, replicate, flat_map, filter_map, filter, slice_get, Option, Some, None, option_map, ok_or, Result, Ok, Err, ℤ, pos, ◌+ℤ◌, nat_abs}
+use Rattle.std.specs.Prelude.{◌<◌, ℕ, zero, suc, Bool, true, ◌&&◌, ◌==◌, nat_le, if◌then◌else◌, List, [], ◌∷◌, length, map, zip, flat_map, filter_map, filter, slice_get, Option, Some, None, option_map, ok_or, Result, Ok, Err, ℤ, pos, ◌+ℤ◌, nat_abs}
 use Rattle.std.specs.List.{list_all, AllByRecursion}
 use Rattle.mf_base.specs.Tags.{Tag, Tags}
 use Rattle.mf_base.specs.declared.kind.EntityKind.{EntityKind}
@@ -128,10 +128,28 @@ run_tags strings run = do
   tags ← each (tag_at strings) run.pairs
   end_of_run strings run.ends tags
 
--- the runs of so many dense nodes: no node of an empty keys_vals has tags
-abbrev pub runs_of : ℕ → List ℕ → List TagRun
-runs_of count [] = replicate count (empty_run by_zero)
-runs_of count (k ∷ rest) = tag_runs (k ∷ rest)
+-- the runs of keys_vals, or None where it is empty: then no node has tags
+abbrev pub runs_of : List ℕ → Option (List TagRun)
+runs_of [] = None
+runs_of (k ∷ rest) = Some (tag_runs (k ∷ rest))
+
+-- the run of the first node: where there is no list it has no tags, and where the list is used up it has none of it
+abbrev pub first_run : Option (List TagRun) → TagRun
+first_run None = empty_run by_zero
+first_run (Some []) = empty_run with_list
+first_run (Some (run ∷ runs)) = run
+
+-- the runs of the nodes behind the first
+abbrev pub other_runs : Option (List TagRun) → Option (List TagRun)
+other_runs None = None
+other_runs (Some []) = Some []
+other_runs (Some (run ∷ runs)) = Some runs
+
+-- the fault of runs that are left over behind the last node
+abbrev pub left_over : Option (List TagRun) → List (Result Object EntityFault)
+left_over None = []
+left_over (Some []) = []
+left_over (Some (run ∷ runs)) = Err Columns ∷ []
 
 -- a dense node of an id, a latitude and a longitude, which are sums of differences
 abbrev pub dense_node : PrimitiveBlock → ℤ × ℤ × ℤ → TagRun → Result Object EntityFault
@@ -139,12 +157,10 @@ dense_node in_block (id, lat, lon) run = do
   _ ← require (is_signed_64 id && is_signed_64 lat && is_signed_64 lon) Range
   Ok (record { kind = kinds.Node; id = id; entity = node_of in_block.head id lat lon (run_tags in_block.strings run) })
 
--- each node with its run; a node without one has none of the list, and a run without a node is left over
-unfoldable pub with_runs : PrimitiveBlock → List (ℤ × ℤ × ℤ) → List TagRun → List (Result Object EntityFault)
-with_runs in_block [] [] = []
-with_runs in_block [] (run ∷ runs) = Err Columns ∷ []
-with_runs in_block (n ∷ ns) [] = dense_node in_block n (empty_run with_list) ∷ with_runs in_block ns []
-with_runs in_block (n ∷ ns) (run ∷ runs) = dense_node in_block n run ∷ with_runs in_block ns runs
+-- each node with its run, and then what is left over
+unfoldable pub with_runs : PrimitiveBlock → List (ℤ × ℤ × ℤ) → Option (List TagRun) → List (Result Object EntityFault)
+with_runs in_block [] runs = left_over runs
+with_runs in_block (n ∷ ns) runs = dense_node in_block n (first_run runs) ∷ with_runs in_block ns (other_runs runs)
 
 -- three lists side by side
 abbrev pub zip_three : {A B C : Type 0} → List A → List B → List C → List (A × B × C)
@@ -153,11 +169,17 @@ zip_three (x ∷ xs) [] zs = []
 zip_three (x ∷ xs) (y ∷ ys) [] = []
 zip_three (x ∷ xs) (y ∷ ys) (z ∷ zs) = (x, y, z) ∷ zip_three xs ys zs
 
--- the nodes of three columns of numbers
+-- the nodes of three columns behind a node of this id, latitude and longitude, and of these runs
+unfoldable pub dense_from : PrimitiveBlock → ℤ × ℤ × ℤ → List ℤ → List ℤ → List ℤ → Option (List TagRun)
+    → List (Result Object EntityFault)
+dense_from in_block (id, lat, lon) ids lats lons runs =
+    with_runs in_block (zip_three (running_sums_from id ids) (running_sums_from lat lats) (running_sums_from lon lons)) runs
+
+-- the nodes of three columns of numbers, which are of one length, and of keys_vals
 unfoldable pub dense_columns : PrimitiveBlock → List ℤ → List ℤ → List ℤ → List ℕ → List (Result Object EntityFault)
 dense_columns in_block ids lats lons keys_vals =
     if (length ids == length lats) && (length ids == length lons)
-    then with_runs in_block (zip_three (running_sums ids) (running_sums lats) (running_sums lons)) (runs_of (length ids) keys_vals)
+    then dense_from in_block (pos 0, pos 0, pos 0) ids lats lons (runs_of keys_vals)
     else Err Columns ∷ []
 
 -- the objects of a DenseNodes message

@@ -6,6 +6,7 @@
 //! `rows` has them on small inputs, and `laws` what follows from them.
 #![tactic(auto)]
 
+pub mod entity_laws;
 pub mod faults;
 pub mod laws;
 pub mod limits;

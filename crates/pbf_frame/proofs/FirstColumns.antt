@@ -57,7 +57,7 @@ packed-signed zs h = ap (map unzigzag_of) (packed_is (packed zs) (map zigzag_of 
 
 -- ---- sums of differences
 
-sums-from : (before : ℤ) (zs : List ℤ) → running_sums_from before (differences before zs) ≡ zs
+pub sums-from : (before : ℤ) (zs : List ℤ) → running_sums_from before (differences before zs) ≡ zs
 sums-from before [] = ap (map (λ sum. before +ℤ sum)) (nil_from_length (running_sums []) (length-column []))
 sums-from before (z ∷ zs) =
     column_from-cons before (z -ℤ before) (differences z zs)

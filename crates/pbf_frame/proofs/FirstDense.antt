@@ -1,7 +1,7 @@
 -- The dense nodes of the first form are objects, each of its id, its place and its tags.
 use Rattle.std.proofs.Common.{◌≡◌, ℕ, ◌-◌, ◌<◌, ◌≤◌, ◌^◌, List, [], ◌∷◌, ◌++◌, length, map, refl, sym, ap, subst, ◌∙◌, arith, true, Ok, Result}
-use Rattle.std.specs.Prelude.{ℤ, pos, negsuc, nat_abs, Some, flat_map}
-use Rattle.std.proofs.lemmas.Bool.{eq-eqb, le-leb}
+use Rattle.std.specs.Prelude.{ℤ, pos, negsuc, nat_abs, Option, Some, flat_map}
+use Rattle.std.proofs.lemmas.Bool.{le-leb}
 use Rattle.std.proofs.lemmas.List.{append-nil, length-map}
 use Rattle.mf_base.specs.Ranges.{is_signed_64}
 use Rattle.mf_base.specs.Spelling.{zigzag_of}
@@ -13,8 +13,9 @@ use Rattle.osm_model.specs.Tables.{FitsTable, fields_fault, message, packed_sint
 use Rattle.osm_model.specs.Blocks.{PrimitiveBlock, is_coordinate}
 use Rattle.osm_model.specs.Entities.{Entity}
 use Rattle.osm_model.specs.declared.faults.EntityFault.{EntityFault}
-use Rattle.osm_model.specs.Objects.{Object, TagRun, running_sums, node_of, run_tags, runs_of, dense_node, with_runs, zip_three, dense_columns, dense_objects, group_objects, block_objects}
+use Rattle.osm_model.specs.Objects.{Object, TagRun, running_sums_from, node_of, run_tags, runs_of, dense_node, with_runs, zip_three, dense_from, dense_columns, dense_objects, group_objects, block_objects}
 use Rattle.osm_model.proofs.TableLaws.{none_fits}
+use Rattle.osm_model.proofs.DenseLaws.{columns-from}
 use Rattle.osm_model.proofs.TableMessageLaws.{message_is}
 use Rattle.pbf_frame.specs.declared.stored.StoredNode.{StoredNode}
 use Rattle.pbf_frame.specs.FirstForm.{FirstData, plain_head, node_told, first_limit, bytes_field, differences, delta_column, dense_nodes, AreFirstNodes}
@@ -22,7 +23,7 @@ use Rattle.pbf_frame.specs.FirstEntities.{entity_told}
 use Rattle.pbf_frame.proofs.Found.{lat-near, lon-near}
 use Rattle.pbf_frame.proofs.NodeLaws.{ids_of, lats_of, lons_of, near}
 use Rattle.pbf_frame.proofs.FirstFields.{bytes_at, spells-bytes, one-field, message-with, field-longer, front-shorter, end-shorter}
-use Rattle.pbf_frame.proofs.FirstColumns.{AreTold, AreNear, rise-is, near-told, packed-whole, packed-signed, sums-back, length-differences}
+use Rattle.pbf_frame.proofs.FirstColumns.{AreTold, AreNear, rise-is, near-told, packed-whole, packed-signed, sums-from, length-differences}
 use Rattle.pbf_frame.proofs.FirstTags.{keys_vals, run_for, tags-whole, tags-numbers, runs_for, runs-are, run-tags}
 use Rattle.pbf_frame.proofs.FirstBlock.{group_for, block_for, strings_for}
 
@@ -140,11 +141,11 @@ dense-node d n small on_earth =
     let lon = lon-within n.lat n.lon on_earth in
     rw (signed-64 (pos n.id) small, signed-64 n.lat (omega (arith, lat)), signed-64 n.lon (omega (arith, lon))) (rw (node-is d n on_earth) refl)
 
-with_runs-nil : (b : PrimitiveBlock) → with_runs b [] [] ≡ []
+with_runs-nil : (b : PrimitiveBlock) → with_runs b [] (Some []) ≡ []
 unfolding with_runs
 with_runs-nil b = refl
 
-with_runs-cons : (b : PrimitiveBlock) (n : ℤ × ℤ × ℤ) (ns : List (ℤ × ℤ × ℤ)) (run : TagRun) (runs : List TagRun) → with_runs b (n ∷ ns) (run ∷ runs) ≡ dense_node b n run ∷ with_runs b ns runs
+with_runs-cons : (b : PrimitiveBlock) (n : ℤ × ℤ × ℤ) (ns : List (ℤ × ℤ × ℤ)) (run : TagRun) (runs : List TagRun) → with_runs b (n ∷ ns) (Some (run ∷ runs)) ≡ dense_node b n run ∷ with_runs b ns (Some runs)
 unfolding with_runs
 with_runs-cons b n ns run runs = refl
 
@@ -152,33 +153,36 @@ with_runs-cons b n ns run runs = refl
 abbrev pub objects_for : FirstData → List StoredNode → List (Result Object EntityFault)
 objects_for d nodes = map (λ (n : StoredNode). Ok (object_for d n)) nodes
 
-nodes-are : (d : FirstData) (before : ℕ) (nodes : List StoredNode) → AreFirstNodes before nodes → with_runs (block_for d) (zip_three (ids_of nodes) (lats_of nodes) (lons_of nodes)) (runs_for nodes) ≡ objects_for d nodes
+nodes-are : (d : FirstData) (before : ℕ) (nodes : List StoredNode) → AreFirstNodes before nodes → with_runs (block_for d) (zip_three (ids_of nodes) (lats_of nodes) (lons_of nodes)) (Some (runs_for nodes)) ≡ objects_for d nodes
 nodes-are d before [] h = with_runs-nil (block_for d)
 nodes-are d before (n ∷ nodes) h =
     with_runs-cons (block_for d) (pos n.id, n.lat, n.lon) (zip_three (ids_of nodes) (lats_of nodes) (lons_of nodes)) (run_for n.tagged) (runs_for nodes)
-    ∙ ap (λ x. x ∷ with_runs (block_for d) (zip_three (ids_of nodes) (lats_of nodes) (lons_of nodes)) (runs_for nodes)) (dense-node d n h.1 h.2)
+    ∙ ap (λ x. x ∷ with_runs (block_for d) (zip_three (ids_of nodes) (lats_of nodes) (lons_of nodes)) (Some (runs_for nodes))) (dense-node d n h.1 h.2)
     ∙ ap (λ xs. Ok (object_for d n) ∷ xs) (nodes-are d n.id nodes h.3)
-
-columns-ok : (b : PrimitiveBlock) (ids lats lons : List ℤ) (tags : List ℕ) → length ids ≡ length lats → length ids ≡ length lons → dense_columns b ids lats lons tags ≡ with_runs b (zip_three (running_sums ids) (running_sums lats) (running_sums lons)) (runs_of (length ids) tags)
-unfolding dense_columns
-columns-ok b ids lats lons tags e f = rw (eq-eqb (length ids) (length lats) e, eq-eqb (length ids) (length lons) f) refl
 
 length-steps : (f : StoredNode → ℤ) (nodes : List StoredNode) → length (steps (map f nodes)) ≡ length nodes
 length-steps f nodes = length-differences (pos 0) (map f nodes) ∙ length-map nodes f
+
+-- what is read from 0 on
+from-zero : (b : PrimitiveBlock) (nodes : List StoredNode) (runs : Option (List TagRun)) → dense_from b (pos 0, pos 0, pos 0) (steps (ids_of nodes)) (steps (lats_of nodes)) (steps (lons_of nodes)) runs ≡ with_runs b (zip_three (ids_of nodes) (lats_of nodes) (lons_of nodes)) runs
+unfolding dense_from
+from-zero b nodes runs =
+    ap (λ xs. with_runs b (zip_three xs (running_sums_from (pos 0) (steps (lats_of nodes))) (running_sums_from (pos 0) (steps (lons_of nodes)))) runs) (sums-from (pos 0) (ids_of nodes))
+    ∙ ap (λ xs. with_runs b (zip_three (ids_of nodes) xs (running_sums_from (pos 0) (steps (lons_of nodes)))) runs) (sums-from (pos 0) (lats_of nodes))
+    ∙ ap (λ xs. with_runs b (zip_three (ids_of nodes) (lats_of nodes) xs) runs) (sums-from (pos 0) (lons_of nodes))
+
+runs-objects : (d : FirstData) (nodes : List StoredNode) → AreFirstNodes 0 nodes → with_runs (block_for d) (zip_three (ids_of nodes) (lats_of nodes) (lons_of nodes)) (runs_of (keys_vals nodes)) ≡ objects_for d nodes
+unfolding with_runs
+runs-objects d [] h = refl
+runs-objects d (n ∷ nodes) h = ap (with_runs (block_for d) (zip_three (ids_of (n ∷ nodes)) (lats_of (n ∷ nodes)) (lons_of (n ∷ nodes)))) (runs-are n nodes) ∙ nodes-are d 0 (n ∷ nodes) h
 
 columns-are : (d : FirstData) (nodes : List StoredNode) → AreFirstNodes 0 nodes → dense_columns (block_for d) (steps (ids_of nodes)) (steps (lats_of nodes)) (steps (lons_of nodes)) (keys_vals nodes) ≡ objects_for d nodes
 columns-are d nodes h =
     let count = length-steps (λ n. pos n.id) nodes in
     let many_lats = count ∙ sym (length-steps (λ n. n.lat) nodes) in
     let many_lons = count ∙ sym (length-steps (λ n. n.lon) nodes) in
-    let b = block_for d in
-    columns-ok b (steps (ids_of nodes)) (steps (lats_of nodes)) (steps (lons_of nodes)) (keys_vals nodes) many_lats many_lons
-    ∙ ap (λ xs. with_runs b (zip_three xs (running_sums (steps (lats_of nodes))) (running_sums (steps (lons_of nodes)))) (runs_of (length (steps (ids_of nodes))) (keys_vals nodes))) (sums-back (ids_of nodes))
-    ∙ ap (λ xs. with_runs b (zip_three (ids_of nodes) xs (running_sums (steps (lons_of nodes)))) (runs_of (length (steps (ids_of nodes))) (keys_vals nodes))) (sums-back (lats_of nodes))
-    ∙ ap (λ xs. with_runs b (zip_three (ids_of nodes) (lats_of nodes) xs) (runs_of (length (steps (ids_of nodes))) (keys_vals nodes))) (sums-back (lons_of nodes))
-    ∙ ap (λ k. with_runs b (zip_three (ids_of nodes) (lats_of nodes) (lons_of nodes)) (runs_of k (keys_vals nodes))) count
-    ∙ ap (with_runs b (zip_three (ids_of nodes) (lats_of nodes) (lons_of nodes))) (runs-are nodes)
-    ∙ nodes-are d 0 nodes h
+    columns-from (block_for d) (steps (ids_of nodes)) (steps (lats_of nodes)) (steps (lons_of nodes)) (keys_vals nodes) many_lats many_lons
+    ∙ from-zero (block_for d) nodes (runs_of (keys_vals nodes)) ∙ runs-objects d nodes h
 
 objects-ok : (b : PrimitiveBlock) (bytes : List ℕ) (parts : List Field) → message DENSE_NODES bytes ≡ Ok parts → dense_objects b bytes ≡ dense_columns b (packed_sint64_of 1 parts) (packed_sint64_of 8 parts) (packed_sint64_of 9 parts) (packed_of 10 parts)
 unfolding dense_objects

@@ -1,5 +1,5 @@
 -- The keys_vals of the first form are one run for each node, and give it the one tag or none.
-use Rattle.std.proofs.Common.{◌≡◌, ℕ, suc, List, [], ◌∷◌, ◌++◌, length, map, refl, ap, ◌∙◌, arith, Bool, true, false, Ok}
+use Rattle.std.proofs.Common.{◌≡◌, ℕ, List, [], ◌∷◌, ◌++◌, map, refl, ap, ◌∙◌, arith, Bool, true, false, Ok}
 use Rattle.std.specs.Prelude.{if◌then◌else◌, flat_map, Some}
 use Rattle.mf_base.specs.Texts.{Text}
 use Rattle.osm_model.specs.Wire.{IsPacked, are_varints, packed_numbers}
@@ -51,13 +51,12 @@ tags-runs [] = refl
 tags-runs (n ∷ nodes) = part-run n.tagged (keys_vals nodes) ∙ ap (λ runs. run_for n.tagged ∷ runs) (tags-runs nodes)
 
 -- keys_vals that are not empty are cut into runs
-part-cut : (tagged : Bool) (count : ℕ) (rest : List ℕ) → runs_of count (tag_part tagged ++ rest) ≡ tag_runs (tag_part tagged ++ rest)
-part-cut true count rest = refl
-part-cut false count rest = refl
+part-cut : (tagged : Bool) (rest : List ℕ) → runs_of (tag_part tagged ++ rest) ≡ Some (tag_runs (tag_part tagged ++ rest))
+part-cut true rest = refl
+part-cut false rest = refl
 
-pub runs-are : (nodes : List StoredNode) → runs_of (length nodes) (keys_vals nodes) ≡ runs_for nodes
-runs-are [] = refl
-runs-are (n ∷ nodes) = part-cut n.tagged (suc (length nodes)) (keys_vals nodes) ∙ tags-runs (n ∷ nodes)
+pub runs-are : (n : StoredNode) (nodes : List StoredNode) → runs_of (keys_vals (n ∷ nodes)) ≡ Some (runs_for (n ∷ nodes))
+runs-are n nodes = part-cut n.tagged (keys_vals nodes) ∙ ap Some (tags-runs (n ∷ nodes))
 
 -- ---- the tags
 

@@ -17,7 +17,6 @@ pub mod FirstBlock
 pub mod FirstDense
 pub mod FirstOrder
 pub mod FirstInput
-pub mod FieldWalk
 pub mod MessageSteps
 pub mod BlobFront
 pub mod TakenSteps

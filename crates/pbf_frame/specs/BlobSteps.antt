@@ -1,31 +1,15 @@
 -- The steps in which a blob is read, and what the reader tells of each: the OpenStreetMap wiki, "PBF Format", on its file format.
-use Rattle.std.specs.Prelude.{◌≡◌, ◌≢◌, ℕ, nat_le, List, [], ◌∷◌, length, filter_map, slice_range, Option, Some, None, option_map, ok_or, Result, Ok, Err, codes}
-use Rattle.std.specs.List.{last_or}
+use Rattle.std.specs.Prelude.{◌≡◌, ◌≢◌, ℕ, nat_le, List, slice_range, Option, Some, None, ok_or, Result, Ok, Err, codes}
 use Rattle.mf_base.specs.Steps.{◌>>=◌, require, told_as}
 use Rattle.osm_model.specs.declared.numbers.TheConstants.{BLOB_HEADER_TYPE, BLOB_HEADER_DATASIZE}
 use Rattle.osm_model.specs.declared.limits.TheConstants.{BLOB_LIMIT}
 use Rattle.osm_model.specs.declared.tables.TheConstants.{BLOB_HEADER}
-use Rattle.osm_model.specs.Wire as wire
-use Rattle.osm_model.specs.Tables.{message, once_of, number_of, values_of, bytes_of, varint_in}
+use Rattle.osm_model.specs.Tables.{message, once_of, number_of}
 use Rattle.osm_model.specs.declared.faults.FrameFault.{FrameFault}
 use Rattle.osm_model.specs.declared.faults.FrameFault.TheVariants.{HeaderWire, NoKind, NoSize, BlobSize}
 use Rattle.pbf_frame.specs.declared.frame.BlobKind.{BlobKind}
 use Rattle.pbf_frame.specs.declared.frame.BlobKind.TheVariants.{Header, Primitive}
 use Rattle.pbf_frame.specs.declared.blob_head.BlobHead.{BlobHead}
-
--- ---- fields
-
--- the bytes at a place, where there is one
-abbrev pub place_shown : List ℕ → Option (ℕ × ℕ) → Option (List ℕ)
-place_shown bytes place = option_map (λ (p : ℕ × ℕ). slice_range bytes p.0 p.1) place
-
--- The field has this number and bytes, and so many of them.
-abbrev pub HasBytes : ℕ → ℕ → wire.Field → Type 0
-HasBytes k size f = (bytes : List ℕ) × (length bytes ≡ size) × (f.value ≡ wire.len bytes) × (bytes_of k (f ∷ []) ≡ bytes ∷ [])
-
--- the last number with this field number in fields, or else the one before
-abbrev pub numbers_behind : Option ℕ → ℕ → List wire.Field → Option ℕ
-numbers_behind before k fs = last_or before (filter_map varint_in (values_of k fs))
 
 -- ---- the BlobHeader
 

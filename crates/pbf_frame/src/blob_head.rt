@@ -3,12 +3,12 @@
 ghost use Rattle.std.specs.Prelude.{◌≡◌, ◌≤◌, length, IfOk, IfSome};
 ghost use Rattle.pbf_frame.specs.BlobSteps.{head_of, TellsHead, IsKind};
 
-use crate::blob_fields::{bytes_place, number_in};
 use crate::frame::BlobKind;
 use crate::frame_fault::FrameFault;
 use osm_model::limits::BLOB_LIMIT;
 use osm_model::numbers::{BLOB_HEADER_DATASIZE, BLOB_HEADER_TYPE};
 use pbf_wire::check::check_message;
+use pbf_wire::lookup::{bytes_place, number_in};
 use pbf_wire::tables::BLOB_HEADER;
 
 // What a BlobHeader tells: the type, where it is one that is read, and how many bytes the Blob has.

@@ -5,10 +5,11 @@ ghost use Rattle.mf_base.specs.Steps.{fault_of};
 ghost use Rattle.osm_model.specs.Frames.{raw_bytes, raw_size_fault};
 ghost use Rattle.pbf_frame.specs.BlobSteps.{raw_shown};
 
-use crate::blob_fields::{bytes_place, compressed_in, number_in};
+use crate::blob_fields::compressed_in;
 use crate::frame_fault::FrameFault;
 use osm_model::numbers::{BLOB_RAW, BLOB_RAW_SIZE};
 use pbf_wire::check::check_message;
+use pbf_wire::lookup::{bytes_place, number_in};
 use pbf_wire::tables::BLOB;
 
 // Where in a Blob its raw bytes stand.

@@ -3,3 +3,4 @@ pub mod PackedReads
 pub mod CheckReads
 pub mod WholeReads
 pub mod ValueLaws
+pub mod FieldWalk

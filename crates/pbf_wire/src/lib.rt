@@ -6,6 +6,7 @@
 pub mod check;
 pub mod fields;
 pub mod laws;
+pub mod lookup;
 pub mod packed;
 pub mod rules;
 pub mod tables;

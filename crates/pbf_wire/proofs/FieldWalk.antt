@@ -9,7 +9,7 @@ use Rattle.osm_model.specs.Tables.{bytes_of, once_of}
 use Rattle.osm_model.proofs.FieldLaws.{field_found}
 use Rattle.osm_model.proofs.MessageLaws.{fields-more}
 use Rattle.pbf_wire.proofs.ValueLaws.{bytes-append}
-use Rattle.pbf_frame.specs.BlobSteps.{HasBytes}
+use Rattle.pbf_wire.specs.Lookup.{HasBytes}
 
 -- bytes that stand behind others, at the end of the whole
 abbrev pub IsBehind : List ℕ → List ℕ → Type 0

@@ -1,6 +1,6 @@
 use Rattle.std.proofs.Common.{◌∙◌, sym, refl, arith}
-use Rattle.pbf_frame.proofs.FieldWalk.{found_place, others_same, still_behind}
-use Rattle.pbf_frame.proofs.blob_fields.bytes_place.Goals as goal
+use Rattle.pbf_wire.proofs.FieldWalk.{found_place, others_same, still_behind}
+use Rattle.pbf_wire.proofs.lookup.bytes_place.Goals as goal
 
 pub overflow_sub-result : goal.overflow_sub-result
 overflow_sub-result c =

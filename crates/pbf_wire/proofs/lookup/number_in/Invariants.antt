@@ -1,8 +1,8 @@
 use Rattle.std.proofs.Common.{◌≡◌, length}
 use Rattle.osm_model.specs.Wire.{fields}
 use Rattle.osm_model.specs.Tables.{number_of}
-use Rattle.pbf_frame.specs.BlobSteps.{numbers_behind}
-use Rattle.pbf_frame.proofs.blob_fields.number_in.Given as goal
+use Rattle.pbf_wire.specs.Lookup.{numbers_behind}
+use Rattle.pbf_wire.proofs.lookup.number_in.Given as goal
 
 -- the last number so far, where none follows
 abbrev pub invariant-loop-field : goal.invariant-loop-field

@@ -1,8 +1,8 @@
 use Rattle.std.proofs.Common.{◌≡◌, length}
 use Rattle.osm_model.specs.Wire.{fields}
 use Rattle.osm_model.specs.Tables.{bytes_of}
-use Rattle.pbf_frame.proofs.FieldWalk.{IsBehind}
-use Rattle.pbf_frame.proofs.blob_fields.bytes_place.Given as goal
+use Rattle.pbf_wire.proofs.FieldWalk.{IsBehind}
+use Rattle.pbf_wire.proofs.lookup.bytes_place.Given as goal
 
 -- the fields before had no such bytes
 abbrev pub invariant-loop-field : goal.invariant-loop-field
