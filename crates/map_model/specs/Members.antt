@@ -1,5 +1,6 @@
 -- Which features are in a tile, and in which order: Mapsforge Specification, Binary Map File Format, version 5, on tile header, POIs and ways; the rest is this project's profile.
-use Rattle.std.specs.Prelude.{ℕ, nat_le, ◌==◌, Bool, true, false, not, ◌&&◌, List, ◌++◌, filter, flat_map, sum_by}
+use Rattle.std.specs.Prelude.{◌≡◌, ◌⊎◌, ℕ, ◌<◌, ◌≤◌, nat_le, ◌==◌, if◌then◌else◌, Bool, true, false, not, ◌&&◌, List, ◌++◌, filter, flat_map, sum_by, AllPairs}
+use Rattle.std.specs.List.{AllByRecursion}
 use Rattle.mf_base.specs.declared.kind.EntityKind.{EntityKind}
 use Rattle.mf_base.specs.declared.kind.EntityKind.TheVariants.{Node, Way, Relation}
 use Rattle.mf_base.specs.declared.tile.Interval.{Interval}
@@ -46,3 +47,16 @@ members features tile = in_tile_order tile.interval (in_tile tile features)
 -- the weights of some features together
 abbrev pub weight_of_tile : List Feature → ℕ
 weight_of_tile members = sum_by (λ f. f.weight) members
+
+-- the number of a class: 0 for a POI, and 1 for a way of the map
+abbrev pub class_of : Feature → ℕ
+class_of f = if is_poi f then 0 else 1
+
+-- of two features the first has the smaller class, or the same class and no greater effective zoom
+abbrev pub StandsBefore : Interval → Feature → Feature → Type 0
+StandsBefore interval f g = (class_of f < class_of g) ⊎ ((class_of f ≡ class_of g) × (raised_zoom interval f.zoom ≤ raised_zoom interval g.zoom))
+
+-- Features in the order of a tile: no zoom level is above the maximum, POIs stand before ways, and each of the two goes by effective zoom.
+pub record StandInOrder (interval : Interval) (features : List Feature) : Type 0 where
+  pub zooms : AllByRecursion (λ (f : Feature). f.zoom ≤ interval.max) features
+  pub pairs : AllPairs (StandsBefore interval) features

@@ -66,3 +66,12 @@ sub_file_size tiles = offset_of tiles (length tiles)
 -- the sub-file of an interval
 unfoldable pub sub_file : List Feature → Rect → ℕ → Interval → List ℕ
 sub_file features box index interval = sub_file_of (contents features box index interval)
+
+-- the entries of tiles with these water bits and sizes in bytes, the first at this offset and each at the end of the one before
+unfoldable pub entries_from : ℕ → List (Bool × ℕ) → List ℕ
+entries_from offset [] = []
+entries_from offset (tile ∷ tiles) = entry_bytes tile.0 offset ++ entries_from (offset + tile.1) tiles
+
+-- the water bit and the size of a tile
+abbrev pub entry_of : TileContent → Bool × ℕ
+entry_of t = (t.water, length t.bytes)
