@@ -1,0 +1,19 @@
+use Rattle.std.proofs.Common.{◌≡◌, ◌+◌, ◌*◌, true, ◌++◌, length}
+use Rattle.mf_edge.specs.Spill.{SameStore}
+use Rattle.spill_parts.specs.Parts.{IsHeld, IsReading}
+use Rattle.spill_parts.proofs.uses.copy_rest.Given as goal
+
+abbrev pub invariant-loop-row : goal.invariant-loop-row
+invariant-loop-row g l = record {
+  same : SameStore (g.P.Spill.state l.fn.spill) (g.P.Spill.state l.spill);
+  same_faults : (g.P.Spill.state l.spill).faults ≡ (g.P.Spill.state l.fn.spill).faults;
+  reading : IsReading g.K.RowKind.kind l.reader l.page (g.P.Spill.state l.spill);
+  held : IsHeld g.K.RowKind.kind l.to (g.P.Spill.state l.spill);
+  part : l.to.part ≡ l.fn.to.part;
+  source : l.reader.source ≡ l.fn.reader.source;
+  rows : (g.P.Spill.state l.fn.spill).tells ≡ true → l.to.rows ++ l.reader.left ≡ l.fn.to.rows ++ l.fn.reader.left;
+  steps : l.steps + g.K.RowKind.kind.width * l.fn.reader.loaded ≡ l.fn.steps + g.K.RowKind.kind.width * l.reader.loaded;
+}
+
+abbrev pub decreases-loop-row : goal.decreases-loop-row
+decreases-loop-row g l = length l.reader.left

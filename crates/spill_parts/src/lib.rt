@@ -1,0 +1,14 @@
+//! Parts of rows: written, ordered and read.
+#![tactic(auto)]
+
+mod part;
+mod reader;
+mod told;
+mod uses;
+mod writer;
+
+pub use part::{Part, forget_part, order_part};
+pub use reader::{Page, Reader};
+pub use told::Told;
+pub use uses::copy;
+pub use writer::Writer;

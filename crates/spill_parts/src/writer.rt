@@ -1,0 +1,77 @@
+//! Who writes a part.
+
+ghost use Rattle.std.specs.Prelude.{◌≡◌, ◌+◌, ◌*◌, ◌<◌, ◌≤◌, true, length, IfOk, OnOk, OnErr};
+ghost use Rattle.mf_edge.specs.Device.{CountsOne};
+ghost use Rattle.mf_edge.specs.Spill.{SameStore, SameParts, TouchesOnly, most_parts, part_limit};
+ghost use Rattle.spill_parts.specs.Parts.{IsHeld, IsBegun, IsPut};
+
+use crate::part::Part;
+use mf_edge::{Failed, Spill};
+use mf_rows::kind::RowKind;
+use std::marker::Model;
+
+/// What puts rows to the end of a part. Contracts see the part as it is so far.
+#[derive(Drop)]
+pub struct Writer<K: RowKind> {
+    part: Part<K>,
+}
+
+impl<K: RowKind> Model for Writer<K> {
+    ghost use Rattle.spill_parts.specs.Parts.{Part as PartRows};
+
+    ghost Value = { PartRows K };
+
+    ghost view = { λ w. w.part };
+}
+
+impl<K: RowKind> Writer<K> {
+    /// Makes a part without rows. After `Failed` all parts are as they were.
+    pub fn make<P: Spill>(spill: &mut P) -> Result<Writer<K>, Failed>
+        requires started { (P.state spill.old).is_started ≡ true }
+        requires few { (P.state spill.old).count < most_parts }
+        ensures made { IfOk result (λ w. IsBegun K.kind w (P.state spill.old) (P.state spill.new)) }
+        ensures same_faults { OnOk result ((P.state spill.new).faults ≡ (P.state spill.old).faults) }
+
+        ensures none { OnErr result (SameParts (P.state spill.old) (P.state spill.new)) }
+        ensures failed { OnErr result (CountsOne (P.state spill.old).faults (P.state spill.new).faults) }
+
+        ensures same { SameStore (P.state spill.old) (P.state spill.new) }
+        ensures same_overrun { (P.state spill.new).is_overrun ≡ (P.state spill.old).is_overrun }
+        ensures counts { (P.state spill.old).faults ≤ (P.state spill.new).faults }
+    {
+        let part = spill.make()?;
+        Ok(Writer {
+            part: Part::of(part),
+        })
+    }
+
+    /// Puts a row to the end of the part. After `Failed` the writer is not used again.
+    pub fn put<P: Spill>(&mut self, spill: &mut P, row: &K) -> Result<(), Failed>
+        requires started { (P.state spill.old).is_started ≡ true }
+        requires held { IsHeld K.kind self.old (P.state spill.old) }
+        ensures put { OnOk result (IsPut K.kind row.now self.old self.new (P.state spill.new)) }
+        ensures small { OnOk result (K.kind.width * length self.old.rows + K.kind.width ≤ part_limit) }
+        ensures same_faults { OnOk result ((P.state spill.new).faults ≡ (P.state spill.old).faults) }
+
+        ensures failed { OnErr result (CountsOne (P.state spill.old).faults (P.state spill.new).faults) }
+
+        ensures within { K.kind.width * length self.old.rows + K.kind.width ≤ part_limit → (P.state spill.new).is_overrun ≡ (P.state spill.old).is_overrun }
+        ensures past { part_limit < K.kind.width * length self.old.rows + K.kind.width → (P.state spill.new).is_overrun ≡ true }
+        ensures same_part { self.new.part ≡ self.old.part }
+        ensures only { TouchesOnly self.old.part (P.state spill.old) (P.state spill.new) }
+        ensures counts { (P.state spill.old).faults ≤ (P.state spill.new).faults }
+    {
+        let mut bytes = [0; 39];
+        row.put(&mut bytes[..K::WIDTH]);
+        spill.append(self.part.number(), &bytes[..K::WIDTH])?;
+        self.part.add(row);
+        Ok(())
+    }
+
+    /// The part as it was written.
+    pub fn finish(self) -> Part<K>
+        ensures { result ≡ self }
+    {
+        self.part
+    }
+}
