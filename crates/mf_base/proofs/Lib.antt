@@ -17,3 +17,7 @@ pub mod ByteLaws
 pub mod ListLaws
 pub mod SignLaws
 pub mod Ordered
+pub mod Decimals
+pub mod Cutting
+pub mod Present
+pub mod WordReading

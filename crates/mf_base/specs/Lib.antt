@@ -13,3 +13,4 @@ pub mod Numbers
 pub mod Words
 pub mod Root
 pub mod Ascending
+pub mod Shown

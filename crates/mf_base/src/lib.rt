@@ -5,6 +5,7 @@
 //! and the tags of an object by `tag_cursor`. The rules stand in `specs/`, with their `laws` and `rows`.
 #![tactic(auto)]
 
+pub mod decimal;
 pub mod fixed;
 pub mod kept;
 pub mod kind;
@@ -18,8 +19,10 @@ pub mod rows;
 pub mod tag_cursor;
 mod tag_lists;
 pub mod text_place;
+pub mod texts;
 pub mod tile;
 pub mod varint;
 pub mod varint_front;
 pub mod vbe;
+pub mod words;
 pub mod zigzag;
