@@ -3,9 +3,9 @@ import re
 from pathlib import Path
 
 TOP = Path(__file__).resolve().parent.parent
-UNLISTED = {"Lib", "Samples"}
+UNLISTED = {"Lib", "Samples", "Laws", "NumberOrder", "Spelled"}
 SIGNATURE = re.compile(r"(\s*)(?:(?:abbrev|unfoldable) )?(?:pub )?(?:record |data )?(\S+) (?:\([^=]*\) |\{[^=]*\} )*: ")
-USE = re.compile(r"\s*(?:ghost )?use Rattle\.(\w+)\.specs\.([\w.]+?)(?:\.\{([^}]*)\})?(?: as (\w+))?;?$")
+USE = re.compile(r"\s*(?:ghost |unfoldable )?(?:pub )?use Rattle\.(\w+)\.specs\.([\w.]+?)(?:\.\{([^}]*)\})?(?: as (\w+))?;?$")
 TOKEN = re.compile(r"[^\s(){};,]+")
 
 
@@ -44,7 +44,7 @@ def bodies_of(lines):
             within = True
         elif line and not line[0].isspace():
             within = False
-        if line.lstrip().startswith(("--", "use ", "infix")) or not line.strip():
+        if line.lstrip().startswith(("--", "use ", "pub use ", "unfoldable pub use ", "infix")) or not line.strip():
             continue
         begins = SIGNATURE.match(line)
         if begins and len(begins.group(1)) == (2 if within else 0):
