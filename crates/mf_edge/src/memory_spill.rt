@@ -170,3 +170,6 @@ impl Spill for MemSpill {
         Failed
     }
 }
+
+#[cfg(test)]
+mod tests;
