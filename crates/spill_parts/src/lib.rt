@@ -1,12 +1,14 @@
 //! Parts of rows: written, ordered and read.
 #![tactic(auto)]
 
+mod merge;
 mod part;
 mod reader;
 mod told;
 mod uses;
 mod writer;
 
+pub use merge::{JoinOf, Keyed, join};
 pub use part::{Part, forget_part, order_part};
 pub use reader::{Page, Reader};
 pub use told::Told;

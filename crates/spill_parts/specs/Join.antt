@@ -1,0 +1,44 @@
+-- The join of two lists of rows by a key that both have. This project's own.
+use Rattle.std.specs.Prelude.{◌≡◌, ◌+◌, ℕ, ◌<◌, ◌≤◌, nat_lt, ◌==◌, Bool, false, if◌then◌else◌, List, [], ◌∷◌, filter_map, find, Option, Some, None, option_map, ⊤}
+use Rattle.mf_edge.specs.Spill.{SpillState, KeepsOthers}
+use Rattle.std.specs.List.{AllByRecursion}
+
+-- Each row of the one list with the row of the other that has its key, where there is one.
+unfoldable pub joined_rows : {R N O : Type 0} → (R → ℕ) → (N → ℕ) → (R → N → O) → List N → List R → List O
+joined_rows {R} {N} {O} ref_key node_key join nodes refs = filter_map (λ (r : R). option_map (join r) (find (λ (n : N). node_key n == ref_key r) nodes)) refs
+
+-- keys that do not fall
+abbrev pub Climbs : {R : Type 0} → (R → ℕ) → List R → Type 0
+Climbs key [] = ⊤
+Climbs {R} key (r ∷ rs) = AllByRecursion (λ (later : R). key r ≤ key later) rs × Climbs key rs
+
+-- keys that rise
+abbrev pub Rises : {N : Type 0} → (N → ℕ) → List N → Type 0
+Rises key [] = ⊤
+Rises {N} key (n ∷ ns) = AllByRecursion (λ (later : N). key n < key later) ns × Rises key ns
+
+-- a row that is held, and those that are left
+abbrev pub rest_of : {N : Type 0} → Option N → List N → List N
+rest_of None left = []
+rest_of (Some n) left = n ∷ left
+
+-- the rows from the first whose key is not below
+abbrev pub from_key : {N : Type 0} → (N → ℕ) → ℕ → List N → List N
+from_key key wanted [] = []
+from_key key wanted (n ∷ ns) = if nat_lt (key n) wanted then from_key key wanted ns else n ∷ ns
+
+-- the join of one row with a row that is held
+abbrev pub one_joined : {R N O : Type 0} → (R → ℕ) → (N → ℕ) → (R → N → O) → R → Option N → List O
+one_joined ref_key node_key join r None = []
+one_joined ref_key node_key join r (Some n) = if node_key n == ref_key r then join r n ∷ [] else []
+
+-- a row is held whose key is below
+abbrev pub is_below : {N : Type 0} → (N → ℕ) → ℕ → Option N → Bool
+is_below key wanted None = false
+is_below key wanted (Some n) = nat_lt (key n) wanted
+
+-- One part more is there, under a number that no part had, and every other part is as before.
+pub record IsAdded (part : ℕ) (before after : SpillState) : Type 0 where
+  pub fresh : before.size part ≡ None
+  pub count : after.count ≡ before.count + 1
+  pub others : KeepsOthers part before after

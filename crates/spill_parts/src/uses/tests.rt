@@ -1,0 +1,135 @@
+//! Parts of few and of many rows through a page of three.
+
+ghost use Rattle.std.specs.Prelude.{◌≤◌, codes};
+ghost use Rattle.mf_edge.specs.Spill.{IsNameOf};
+ghost use Rattle.mf_rows.specs.Kinds.{node_kind};
+
+use super::*;
+use crate::part::order_part;
+use mf_edge::MemSpill;
+use mf_rows::kinds::NodeRow;
+use std::alloc::{AllocError, Global};
+use std::marker::Brand;
+use std::sync::ledger::Blank;
+use std::test::Fail;
+
+fn row(node: u64, lat: i32) -> NodeRow {
+    NodeRow { node, lat, lon: -1 }
+}
+
+// A part of these rows, in this order.
+fn written<P: Spill>(spill: &mut P, rows: &[NodeRow]) -> Result<Part<NodeRow>, Failed>
+    requires started { (P.state spill.old).is_started ≡ true }
+    requires few { (P.state spill.old).count < most_parts }
+    ensures started { (P.state spill.new).is_started ≡ true }
+    ensures count { (P.state spill.new).count ≤ (P.state spill.old).count + 1 }
+    ensures held { IfOk result (λ part. IsHeld node_kind part (P.state spill.new)) }
+{
+    let mut writer = Writer::make(spill)?;
+    for row in rows {
+        writer.put(spill, row)?;
+    }
+    Ok(writer.finish())
+}
+
+// The rows of a part, in its order, and no more than nine.
+fn rows_of<P: Spill, L: Ledger>(
+    spill: &mut P,
+    part: &Part<NodeRow>,
+    page: &mut Page,
+    steps: &mut Steps<L>,
+) -> Result<([NodeRow; 9], usize), Failed>
+    requires started { (P.state spill.old).is_started ≡ true }
+    requires held { IsHeld node_kind part.now (P.state spill.old) }
+    ensures most { IfOk result (λ found. found.1 ≤ 9) }
+{
+    let mut reader = Reader::start(part);
+    let mut rows = [row(0, 0); 9];
+    let mut n = 0;
+    while let Some(row) = reader.next(spill, page, steps)? {
+        if n == 9 {
+            return Err(Failed);
+        }
+        rows[n] = row;
+        n += 1;
+    }
+    Ok((rows, n))
+}
+
+// The rows as they are read after they were written, ordered and copied.
+fn in_order<P: Spill, L: Ledger>(
+    spill: &mut P,
+    rows: &[NodeRow],
+    page: &mut Page,
+    blank: Blank,
+) -> Result<([NodeRow; 9], usize), Failed>
+    requires ledger { blank.name ≡ L.name }
+    requires parts { blank.parts ≡ L.parts }
+    requires some { 0 < blank.parts }
+    requires name { IsNameOf (codes "rows") (P.state spill.old).name }
+    ensures most { IfOk result (λ found. found.1 ≤ 9) }
+{
+    let mut steps = Steps::<L>::new(blank);
+    spill.start("rows")?;
+    let part = written(spill, rows)?;
+    let part = order_part(spill, part)?;
+    let part = copy(&part, spill, page, &mut steps)?;
+    rows_of(spill, &part, page, &mut steps)
+}
+
+// Whether the rows are read in this order, after they were written and ordered.
+fn are_read_as(alloc: Global, rows: &[NodeRow], ordered: &[NodeRow]) -> Result<bool, AllocError> {
+    let mut page = Page::new(alloc, 3)?;
+    let mut store = MemSpill::new(alloc, &[])?;
+    match in_order::<MemSpill, Brand>(&mut store, rows, &mut page, Blank::new(1)) {
+        Ok((found, n)) => Ok(&found[..n] == ordered),
+        Err(Failed) => Ok(false),
+    }
+}
+
+// A place south of the equator stands behind those north of it.
+#[test]
+fn rows_through_pages_of_three(rt: HostRuntime) -> Result<(), Fail> {
+    let many = [
+        row(1 << 40, 0),
+        row(7, -1),
+        row(7, 2),
+        row(u64::MAX, 5),
+        row(7, -2),
+        row(0, 1),
+        row(7, 2),
+        row(256, 0),
+        row(255, 0),
+    ];
+    let many_ordered = [
+        row(0, 1),
+        row(7, 2),
+        row(7, 2),
+        row(7, -2),
+        row(7, -1),
+        row(255, 0),
+        row(256, 0),
+        row(1 << 40, 0),
+        row(u64::MAX, 5),
+    ];
+    assert!(rt; are_read_as(rt.alloc(), &[], &[])?);
+    assert!(rt; are_read_as(rt.alloc(), &many[1..2], &many[1..2])?);
+    assert!(rt; are_read_as(rt.alloc(), &[row(2, 0), row(1, 0)], &[row(1, 0), row(2, 0)])?);
+    assert!(rt; are_read_as(rt.alloc(), &many[4..7], &[row(0, 1), row(7, 2), row(7, -2)])?);
+    assert!(rt; are_read_as(rt.alloc(), &[row(7, 0); 4], &[row(7, 0); 4])?);
+    assert!(rt; are_read_as(rt.alloc(), &many, &many_ordered)?);
+    Ok(())
+}
+
+// Two rows are written, ordered, and read once for each of two readers.
+#[test]
+fn each_of_ten_calls_fails_in_turn(rt: HostRuntime) -> Result<(), Fail> {
+    let mut page = Page::new(rt.alloc(), 3)?;
+    for call in 1..12 {
+        let mut store = MemSpill::new(rt.alloc(), &[call])?;
+        let rows = [row(2, 0), row(1, 0)];
+        let outcome = in_order::<MemSpill, Brand>(&mut store, &rows, &mut page, Blank::new(1));
+        assert_eq!(rt; outcome.is_err(), call <= 10, "call {call}");
+    }
+    Ok(())
+}
