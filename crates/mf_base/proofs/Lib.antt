@@ -11,6 +11,7 @@ pub mod PackedFront
 pub mod EntryLaws
 pub mod Compute
 pub mod Roots
+pub mod RootSteps
 pub mod WordLaws
 pub mod BigBytes
 pub mod ByteLaws

@@ -7,6 +7,7 @@
 
 pub mod decimal;
 pub mod fixed;
+pub mod isqrt;
 pub mod kept;
 pub mod kind;
 pub mod laws;

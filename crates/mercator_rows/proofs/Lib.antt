@@ -1,0 +1,5 @@
+pub mod Scales
+pub mod Series
+pub mod Found
+pub mod Signed
+pub mod Corners
