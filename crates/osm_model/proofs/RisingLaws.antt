@@ -18,7 +18,8 @@ use Rattle.osm_model.specs.Entities.{Entity, kind_of, id_of}
 use Rattle.osm_model.specs.Order.{rank, has_later_kind, ids_of, last_id, order_fault, entity_behind, in_order, kind_and_id, Precedes, IsRising}
 use Rattle.osm_model.proofs.TableLaws.{some_no_none}
 use Rattle.osm_model.proofs.OrderLaws.{in_order-nil, in_order-err, in_order-refused, in_order-next}
-use Rattle.osm_model.proofs.TellingLaws.{Consistent, AllTell, block_tell}
+use Rattle.osm_model.proofs.ObjectWalk.{AllHold}
+use Rattle.osm_model.proofs.TellingLaws.{Consistent, block_tell}
 
 -- the first object may stand before the second
 abbrev Before : Entity → Entity → Type 0
@@ -145,7 +146,7 @@ placed_rises before object e rising told h =
     let last : last_id (kind_of e) before < id_of e = subst (λ n. last_id (kind_of e) before < n) (sym same.1) (subst (λ k. last_id k before < nat_abs object.id) (sym same.0) parts.1) in
     rising_with before e rising (omega (arith, last)) (precede before e ranks (below_last (kind_of e) (id_of e) before rising last))
 
-pub in_order-rises : (objects : List (Result Object EntityFault)) (before : List Entity) → Rises before → AllTell objects → Rises (before ++ (in_order before objects).items)
+pub in_order-rises : (objects : List (Result Object EntityFault)) (before : List Entity) → Rises before → AllHold Consistent objects → Rises (before ++ (in_order before objects).items)
 in_order-rises [] before rising h = subst (λ (r : Reading Entity EntityFault). Rises (before ++ r.items)) (sym (in_order-nil before)) (subst Rises (sym (append-nil before)) rising)
 in_order-rises (Err fault ∷ others) before rising h = subst (λ (r : Reading Entity EntityFault). Rises (before ++ r.items)) (sym (in_order-err before fault others)) (subst Rises (sym (append-nil before)) rising)
 in_order-rises (Ok object ∷ others) before rising h = go (λ o k. in_order-rises others o k h.1) (entity_behind before object) refl

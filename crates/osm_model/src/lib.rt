@@ -6,6 +6,7 @@
 //! `rows` has them on small inputs, and `laws` what follows from them.
 #![tactic(auto)]
 
+pub mod block_laws;
 pub mod entity_laws;
 pub mod faults;
 pub mod laws;
