@@ -1,5 +1,7 @@
 -- Texts cut by the functions of std, in the words of the definitions.
-use Rattle.std.proofs.Common.{◌≡◌, ◌≢◌, ℕ, suc, ◌+◌, ◌-◌, ◌<◌, ◌≤◌, [], ◌∷◌, ◌++◌, reverse, length, take, drop, get_or, refl, sym, ap, subst, ◌∙◌, arith, false, Option, Some, None, option_map, MatchOption, Bor, take-append-drop, ne_eqb}
+use Rattle.std.proofs.Common.{◌≡◌, ◌≢◌, ℕ, suc, ◌+◌, ◌-◌, ◌<◌, ◌≤◌, [], ◌∷◌, ◌++◌, reverse, length, take, drop, get_or}
+use Rattle.std.proofs.Common.{refl, sym, ap, subst, ◌∙◌, arith, false, Option, Some, None, option_map, MatchOption, Bor}
+use Rattle.std.proofs.Common.{take-append-drop, ne_eqb}
 use Rattle.std.specs.Prelude.{nat_eq}
 use Rattle.std.specs.Str.{NoCharPasses}
 use Rattle.std.specs.Str.Pattern.{RFindsChar}
@@ -21,10 +23,12 @@ lacks-first c b text h = h 0 (omega arith)
 
 pub has_byte-lacks : (c : ℕ) (text : Text) → Lacks c text → has_byte c text ≡ false
 has_byte-lacks c [] h = refl
-has_byte-lacks c (b ∷ text) h = rw (ne_eqb c b (λ e. lacks-first c b text h (sym e)), has_byte-lacks c text (lacks-rest c b text h)) refl
+has_byte-lacks c (b ∷ text) h =
+    rw (ne_eqb c b (λ e. lacks-first c b text h (sym e)), has_byte-lacks c text (lacks-rest c b text h)) refl
 
 -- What `split_once` says at an ASCII character.
-pub cut-split : (c : ℕ) (text : Text) (r : Option (Bor Text × Bor Text)) → IsSplitOnceResult c text r → c < 128 → option_map both_now r ≡ cut c text
+pub cut-split : (c : ℕ) (text : Text) (r : Option (Bor Text × Bor Text)) → IsSplitOnceResult c text r → c < 128
+    → option_map both_now r ≡ cut c text
 cut-split c text None h low = sym (cut-absent c text (has_byte-lacks c text (split_parts c text None h low)))
 cut-split c text (Some x) h low =
     let parts = split_parts c text (Some x) h low in
@@ -38,21 +42,34 @@ lacks-reverse c text h i l =
     λ e. h (length text - 1 - i) (omega (arith, within)) (sym (get_or-reverse text i 0 within) ∙ e)
 
 cut_last-none : (c : ℕ) (text : Text) → Lacks c text → cut_last c text ≡ None
-cut_last-none c text h = rw (cut-absent c (reverse text) (has_byte-lacks c (reverse text) (lacks-reverse c text h))) refl
+cut_last-none c text h =
+    rw (cut-absent c (reverse text) (has_byte-lacks c (reverse text) (lacks-reverse c text h))) refl
 
 reversed : (c : ℕ) (front rest : Text) → reverse (front ++ c ∷ rest) ≡ reverse rest ++ c ∷ reverse front
-reversed c front rest = reverse-append front (c ∷ rest) ∙ ap (λ (l : Text). l ++ reverse front) (reverse-append (c ∷ []) rest) ∙ append_assoc (reverse rest) (c ∷ []) (reverse front)
+reversed c front rest = reverse-append front (c ∷ rest)
+    ∙ ap (λ (l : Text). l ++ reverse front) (reverse-append (c ∷ []) rest)
+    ∙ append_assoc (reverse rest) (c ∷ []) (reverse front)
 
 cut_last-some : (c : ℕ) (front rest : Text) → Lacks c rest → cut_last c (front ++ c ∷ rest) ≡ Some (front, rest)
-cut_last-some c front rest h = rw (reversed c front rest, cut-at c (reverse rest) (reverse front) (has_byte-lacks c (reverse rest) (lacks-reverse c rest h)), reverse-reverse front, reverse-reverse rest) refl
+cut_last-some c front rest h =
+    rw (
+      reversed c front rest,
+      cut-at c (reverse rest) (reverse front) (has_byte-lacks c (reverse rest) (lacks-reverse c rest h)),
+      reverse-reverse front,
+      reverse-reverse rest,
+    ) refl
 
 -- what `rsplit_once` says at an ASCII character
 abbrev pub IsSplitLast : ℕ → Text → Option (Bor Text × Bor Text) → Type 0
-IsSplitLast c bs r = MatchOption r (RFindsChar c bs None) (λ x. (i : ℕ) × (j : ℕ) × RFindsChar c bs (Some (i, j)) × (x.0.now ≡ take i bs) × (x.1.now ≡ drop j bs) × (i ≤ j) × (length x.0.now ≡ i) × (length x.1.now + j ≡ length bs))
+IsSplitLast c bs r = MatchOption r (RFindsChar c bs None) (λ x. (i : ℕ) × (j : ℕ) × RFindsChar c bs (Some (i, j))
+    × (x.0.now ≡ take i bs) × (x.1.now ≡ drop j bs) × (i ≤ j) × (length x.0.now ≡ i) × (length x.1.now + j ≡ length bs))
 
-pub cut_last-split : (c : ℕ) (text : Text) (r : Option (Bor Text × Bor Text)) → IsSplitLast c text r → c < 128 → option_map both_now r ≡ cut_last c text
+pub cut_last-split : (c : ℕ) (text : Text) (r : Option (Bor Text × Bor Text)) → IsSplitLast c text r → c < 128
+    → option_map both_now r ≡ cut_last c text
 cut_last-split c text None h low = sym (cut_last-none c text (λ i. NoCharPasses-char c text i h low))
 cut_last-split c text (Some x) h low =
-    let whole : text ≡ x.0.now ++ c ∷ x.1.now = sym (take-append-drop h.0 text) ∙ (λ k. sym h.3 k ++ (drop_at_char c text h.0 h.1 h.2.1 low ∙ ap (λ (l : Text). c ∷ l) (sym h.4)) k) in
-    let lacks : Lacks c x.1.now = λ i. NoCharPasses-char c x.1.now i (subst (NoCharPasses (λ d. nat_eq d c)) (sym h.4) h.2.0) low in
+    let whole : text ≡ x.0.now ++ c ∷ x.1.now = sym (take-append-drop h.0 text)
+    ∙ (λ k. sym h.3 k ++ (drop_at_char c text h.0 h.1 h.2.1 low ∙ ap (λ (l : Text). c ∷ l) (sym h.4)) k) in
+    let lacks : Lacks c x.1.now =
+    λ i. NoCharPasses-char c x.1.now i (subst (NoCharPasses (λ d. nat_eq d c)) (sym h.4) h.2.0) low in
     rw whole (sym (cut_last-some c x.0.now x.1.now lacks))

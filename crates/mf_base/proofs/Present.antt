@@ -1,5 +1,6 @@
 -- Which texts are present and readable.
-use Rattle.std.proofs.Common.{◌≡◌, ◌⊎◌, ◌<◌, ◌≤◌, length, refl, ap, inl, inr, false, Option, Some, None, Result, Ok, Err, option_map, Bor, MatchResult}
+use Rattle.std.proofs.Common.{◌≡◌, ◌⊎◌, ◌<◌, ◌≤◌, length, refl, ap, inl, inr, false, Option, Some, None, Result, Ok}
+use Rattle.std.proofs.Common.{Err, option_map, Bor, MatchResult}
 use Rattle.std.specs.Prelude.{nat_le}
 use Rattle.std.specs.Str.{IsUtf8, is_utf8}
 use Rattle.std.specs.Result.{result_ok}
@@ -21,10 +22,14 @@ unreadable bytes out = elim (cases_Bool (is_utf8 bytes)) [
 ]
 
 -- what `from_utf8` says of bytes that are not too many
-pub readable : {E : Type 0} (F : E → Type 0) (bytes : Text) (r : Result (Bor Text) E) (o : Option (Bor Text)) → 1 ≤ length bytes → length bytes ≤ 1020
-    → MatchResult r (λ s. (s.now ≡ bytes) × IsUtf8 bytes) (λ e. (IsUtf8 bytes → ⊥) × F e) → o ≡ result_ok r → option_map (λ (t : Bor Text). t.now) o ≡ readable_text bytes
+pub readable : {E : Type 0} (F : E → Type 0) (bytes : Text) (r : Result (Bor Text) E) (o : Option (Bor Text))
+    → 1 ≤ length bytes → length bytes ≤ 1020
+    → MatchResult r (λ s. (s.now ≡ bytes) × IsUtf8 bytes) (λ e. (IsUtf8 bytes → ⊥) × F e) → o ≡ result_ok r
+    → option_map (λ (t : Bor Text). t.now) o ≡ readable_text bytes
 unfolding readable_text present_text
-readable F bytes (Ok s) o some few h is = rw (is, is_utf8-from_IsUtf8 bytes h.1, le-leb 1 (length bytes) some, le-leb (length bytes) 1020 few) (ap (λ (t : Text). Some t) h.0)
+readable F bytes (Ok s) o some few h is =
+    rw (is, is_utf8-from_IsUtf8 bytes h.1, le-leb 1 (length bytes) some, le-leb (length bytes) 1020 few)
+    (ap (λ (t : Text). Some t) h.0)
 readable F bytes (Err e) o some few h is = elim (cases_Bool (is_utf8 bytes)) [
   | inl good ↦ absurd (h.0 (IsUtf8-from_is_utf8 bytes good))
   | inr bad ↦ rw (is, bad) refl

@@ -46,7 +46,13 @@ step-root v x some above stands =
 -- the first guess is above the root
 pub guess-above : (v k : ℕ) → v < 2 * 2 ^ k → v < 2 ^ (k / 2 + 1) * 2 ^ (k / 2 + 1)
 guess-above v k below =
-    let more : 2 * 2 ^ k ≤ 2 ^ (k / 2 + 1 + (k / 2 + 1)) = omega (arith, pow-suc 2 k, pow-le-pow_right {n = 2} (omega arith) {i = suc k} {j = k / 2 + 1 + (k / 2 + 1)} (omega arith)) in
+    let more : 2 * 2 ^ k ≤ 2 ^ (k / 2 + 1 + (k / 2 + 1)) =
+    omega (
+      arith,
+      pow-suc 2 k,
+      pow-le-pow_right {n = 2} (omega arith) {i = suc k} {j = k / 2 + 1 + (k / 2 + 1)}
+          (omega arith),
+    ) in
     rw (sym (pow-add 2 (k / 2 + 1) (k / 2 + 1))) (omega (arith, below, more))
 
 -- and it is not cut off at 128 bits
@@ -63,7 +69,8 @@ pub isqrt-le : (n v : ℕ) → v < suc n * suc n → isqrt v ≤ n
 isqrt-le n v above =
     let root = isqrt-is v in
     elim (cases_lt n (isqrt v)) [
-      | inl less ↦ let squares = squares-le (suc n) (isqrt v) (omega (arith, less)) in absurd (omega (arith, squares, above, root.below))
+      | inl less ↦ let squares =
+          squares-le (suc n) (isqrt v) (omega (arith, less)) in absurd (omega (arith, squares, above, root.below))
       | inr le ↦ omega (arith, le)
     ]
 
@@ -72,6 +79,7 @@ pub le-isqrt : (n v : ℕ) → n * n ≤ v → n ≤ isqrt v
 le-isqrt n v below =
     let root = isqrt-is v in
     elim (cases_lt (isqrt v) n) [
-      | inl less ↦ let squares = squares-le (suc (isqrt v)) n (omega (arith, less)) in absurd (omega (arith, squares, below, root.next))
+      | inl less ↦ let squares =
+          squares-le (suc (isqrt v)) n (omega (arith, less)) in absurd (omega (arith, squares, below, root.next))
       | inr le ↦ omega (arith, le)
     ]

@@ -1,12 +1,14 @@
 -- What steps in order tell of their parts.
-use Rattle.std.proofs.Common.{◌≡◌, refl, Bool, true, false, Option, Some, None, Result, Ok, Err, ok_or, option_map, sym, cond, ◌⊎◌, inl, inr}
+use Rattle.std.proofs.Common.{◌≡◌, refl, Bool, true, false, Option, Some, None, Result, Ok, Err, ok_or, option_map, sym}
+use Rattle.std.proofs.Common.{cond, ◌⊎◌, inl, inr}
 use Rattle.std.proofs.lemmas.Option.{none-some}
 use Rattle.mf_base.specs.Steps.{◌>>=◌, require, refuse, told_as}
 
 pub err_is_no_ok : {A F : Type 0} (f : F) (x : A) → ◌≡◌ {A = Result A F} (Err f) (Ok x) → ⊥
 err_is_no_ok f x e = cc
 
-pub bind_ok : {A B F : Type 0} (r : Result A F) (next : A → Result B F) (y : B) → (r >>= next) ≡ Ok y → (x : A) × (r ≡ Ok x) × (next x ≡ Ok y)
+pub bind_ok : {A B F : Type 0} (r : Result A F) (next : A → Result B F) (y : B) → (r >>= next) ≡ Ok y
+    → (x : A) × (r ≡ Ok x) × (next x ≡ Ok y)
 bind_ok (Ok x) next y e = (x, refl, e)
 bind_ok (Err f) next y e = absurd (err_is_no_ok f y e)
 

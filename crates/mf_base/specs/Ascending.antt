@@ -1,5 +1,6 @@
 -- Ordered rows: lists of bytes, compared as texts are. This project's profile.
-use Rattle.std.specs.Prelude.{ℕ, Bool, suc, zero, List, [], ◌∷◌, ◌≡◌, take, drop, count_by, bytes_eq, IsTrue, not, if◌then◌else◌, flat_map}
+use Rattle.std.specs.Prelude.{ℕ, Bool, suc, zero, List, [], ◌∷◌, ◌≡◌, take, drop, count_by, bytes_eq, IsTrue, not}
+use Rattle.std.specs.Prelude.{if◌then◌else◌, flat_map}
 use Rattle.std.specs.declared.cmp.Ordering.{Ordering}
 use Rattle.std.specs.Ordering.{nat_cmp, is_lt}
 use Rattle.std.specs.Cmp.Lexicographic.{slice_cmp}

@@ -1,5 +1,8 @@
--- The number that some bytes begin with and how many bytes it takes, or the first cause why there is none: Mapsforge Specification, Binary Map File Format, version 5, on variable byte encoding; Protocol Buffers, "Encoding", on base 128 varints. That a VBE number has its shortest spelling is this project's profile.
-use Rattle.std.specs.Prelude.{ℕ, zero, suc, ◌*◌, ◌+◌, ◌/◌, ◌%◌, ◌^◌, Bool, ◌&&◌, ◌||◌, ◌==◌, nat_lt, nat_le, List, [], ◌∷◌, length, Result, Ok, ℤ, pos, neg_ℤ}
+-- The number that some bytes begin with and how many bytes it takes, or the first cause why there is none: Mapsforge
+-- Specification, Binary Map File Format, version 5, on variable byte encoding; Protocol Buffers, "Encoding", on base
+-- 128 varints. That a VBE number has its shortest spelling is this project's profile.
+use Rattle.std.specs.Prelude.{ℕ, zero, suc, ◌*◌, ◌+◌, ◌/◌, ◌%◌, ◌^◌, Bool, ◌&&◌, ◌||◌, ◌==◌, nat_lt, nat_le, List, []}
+use Rattle.std.specs.Prelude.{◌∷◌, length, Result, Ok, ℤ, pos, neg_ℤ}
 use Rattle.mf_base.specs.declared.number.VbeFault.{VbeFault}
 use Rattle.mf_base.specs.declared.number.VbeFault.TheVariants.{Short, Wide, NegativeZero, Long}
 use Rattle.mf_base.specs.declared.number.VarintFault.{VarintFault}
@@ -39,7 +42,8 @@ run_sign last [] = 0
 run_sign last (byte ∷ []) = last * (byte / last % 2)
 run_sign last (byte ∷ next ∷ rest) = run_sign last (next ∷ rest)
 
--- The VBE number that the bytes begin with, as its sign's bit and its magnitude: a magnitude below 2^63, a zero without a sign, and the shortest spelling.
+-- The VBE number that the bytes begin with, as its sign's bit and its magnitude: a magnitude below 2^63, a zero without
+-- a sign, and the shortest spelling.
 unfoldable pub vbe_front : ℕ → List ℕ → Result ((ℕ × ℕ) × ℕ) VbeFault
 vbe_front last bytes = do
   let m = run_magnitude last (first_run bytes)

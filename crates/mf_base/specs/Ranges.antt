@@ -1,5 +1,6 @@
 -- Numbers within bounds, and places and rectangles on the earth, in microdegrees.
-use Rattle.std.specs.Prelude.{ℕ, ◌^◌, ◌-◌, ℤ, pos, negsuc, int_le, nat_le, Bool, ◌&&◌, Option, Some, None, if◌then◌else◌}
+use Rattle.std.specs.Prelude.{ℕ, ◌^◌, ◌-◌, ℤ, pos, negsuc, int_le, nat_le, Bool, ◌&&◌, Option, Some, None}
+use Rattle.std.specs.Prelude.{if◌then◌else◌}
 use Rattle.mf_base.specs.declared.place.Place.{Place}
 use Rattle.mf_base.specs.declared.place.Rect.{Rect}
 
@@ -37,4 +38,5 @@ is_on_earth p = is_latitude p.lat && is_longitude p.lon
 
 -- a rectangle on the earth, whose least sides are at most its greatest
 abbrev pub is_rect : Rect → Bool
-is_rect r = is_latitude r.min_lat && is_latitude r.max_lat && is_longitude r.min_lon && is_longitude r.max_lon && int_le r.min_lat r.max_lat && int_le r.min_lon r.max_lon
+is_rect r = is_latitude r.min_lat && is_latitude r.max_lat && is_longitude r.min_lon && is_longitude r.max_lon
+    && int_le r.min_lat r.max_lat && int_le r.min_lon r.max_lon

@@ -14,4 +14,5 @@ both_now parts = (parts.0.now, parts.1.now)
 abbrev pub Begins : List Text → Front → Type 0
 Begins words front.End = options_of words ≡ Some []
 Begins words front.Broken = options_of words ≡ None
-Begins words (front.Option name value size) = (1 ≤ size) × (size ≤ length words) × (options_of words ≡ and_then_options (name.now, value.now) (options_of (drop size words)))
+Begins words (front.Option name value size) = (1 ≤ size) × (size ≤ length words)
+    × (options_of words ≡ and_then_options (name.now, value.now) (options_of (drop size words)))

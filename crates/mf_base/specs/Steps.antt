@@ -1,4 +1,5 @@
--- Steps in order, each with an answer or a fault, up to the first fault. What is read, checked or refused in an order is said with these words.
+-- Steps in order, each with an answer or a fault, up to the first fault. What is read, checked or refused in an order
+-- is said with these words.
 use Rattle.std.specs.Prelude.{Bool, true, false, List, [], ◌∷◌, Option, Some, None, Result, Ok, Err}
 
 infixl 10 ◌>>=◌

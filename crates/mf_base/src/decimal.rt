@@ -1,11 +1,13 @@
 //! Numbers in decimal digits: whole numbers and elevations in tags, and whole numbers of words.
 
-ghost use Rattle.std.specs.Prelude.{◌≡◌, ◌+◌, ◌-◌, ◌*◌, ◌^◌, ◌<◌, ◌≤◌, pos, ◌<ℤ◌, IsTrue, option_map, option_and_then, IfSome, drop, if◌then◌else◌};
+ghost use Rattle.std.specs.Prelude.{◌≡◌, ◌+◌, ◌-◌, ◌*◌, ◌^◌, ◌<◌, ◌≤◌, pos, ◌<ℤ◌, IsTrue, option_map, option_and_then};
+ghost use Rattle.std.specs.Prelude.{IfSome, drop, if◌then◌else◌};
 ghost use Rattle.std.specs.Option.{SomeIff};
 ghost use Rattle.std.specs.Char.{is_ascii_digit};
 ghost use Rattle.std.specs.List.{list_all};
 ghost use Rattle.mf_base.specs.Ranges.{within, within_numbers};
-ghost use Rattle.mf_base.specs.Numbers.{whole_number, height, metres, number_in, whole_in, digits_up_to, starts, without, minus, plus, under_sign};
+ghost use Rattle.mf_base.specs.Numbers.{whole_number, height, metres, number_in, whole_in, digits_up_to, starts};
+ghost use Rattle.mf_base.specs.Numbers.{without, minus, plus, under_sign};
 
 use crate::texts::cut_bytes;
 
@@ -18,7 +20,8 @@ pub fn read_whole(bytes: &[u8]) -> Option<i64>
     Some(with_sign(negative, magnitude))
 }
 
-/// Reads an elevation in whole metres: an optional `-` or `+` and one to five digits. A dot and the digits behind it are
+/// Reads an elevation in whole metres: an optional `-` or `+` and one to five digits. A dot and the digits behind it
+/// are
 /// dropped.
 pub fn read_height(bytes: &[u8]) -> Option<i32>
     ensures { result ≡ height bytes.now }
@@ -39,7 +42,8 @@ pub fn read_number(text: &str, least: u64, greatest: u64) -> Option<u64>
     Some(number)
 }
 
-/// Reads a whole number of the words, of one to twenty digits with an optional `-` before them. Negative numbers are in the
+/// Reads a whole number of the words, of one to twenty digits with an optional `-` before them. Negative numbers are in
+/// the
 /// range.
 pub fn read_signed(text: &str, least: i32, greatest: i32) -> Option<i32>
     requires { least <ℤ pos 0 }
@@ -140,7 +144,8 @@ fn number_of(digits: &[u8], most: usize) -> Option<u64>
 
 // A number with one more digit behind it.
 fn with_digit(number: u64, digit: u8) -> Option<u64>
-    ensures { SomeIff result (IsTrue (is_ascii_digit digit) × (number * 10 + (digit - 48) < 2 ^ 64)) (number * 10 + (digit - 48)) }
+    ensures { SomeIff result (IsTrue (is_ascii_digit digit) × (number * 10 + (digit - 48) < 2 ^ 64))
+        (number * 10 + (digit - 48)) }
 {
     if !digit.is_ascii_digit() {
         return None;

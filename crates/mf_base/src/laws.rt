@@ -1,7 +1,8 @@
 //! Laws of the definitions, each on a function that does nothing.
 
 ghost use Rattle.std.specs.Prelude.{◌≡◌, ◌↔◌, ℕ, ◌^◌, ◌<◌, ◌≤◌, Ok, List, ◌++◌, length, take, ℤ, nat_abs, Some, IsTrue};
-ghost use Rattle.mf_base.specs.Spelling.{IsBytes, IsVbeUnsigned, IsVbeSigned, IsVarint, vbe_unsigned, vbe_signed, zigzag_of, unzigzag_of};
+ghost use Rattle.mf_base.specs.Spelling.{IsBytes, IsVbeUnsigned, IsVbeSigned, IsVarint, vbe_unsigned, vbe_signed};
+ghost use Rattle.mf_base.specs.Spelling.{zigzag_of, unzigzag_of};
 ghost use Rattle.mf_base.specs.NumberReading.{varint_front, unsigned_front, signed_front};
 ghost use Rattle.mf_base.specs.Texts.{Text};
 ghost use Rattle.mf_base.specs.Words.{Given, Spells, KeepRules, words_keep, word_of, options_of, given_value};
@@ -21,20 +22,25 @@ pub fn one_signed_spelling()
 
 /// Bytes begin with an unsigned number exactly where they begin with its spelling.
 pub fn one_front_unsigned()
-    ensures reads { (n : ℕ) (b rest : List ℕ) → n < 2 ^ 63 → IsVbeUnsigned n b → unsigned_front (b ++ rest) ≡ Ok (n, length b) }
-    ensures spelled { (bytes : List ℕ) (n size : ℕ) → IsBytes bytes → unsigned_front bytes ≡ Ok (n, size) → (size ≤ length bytes) × (n < 2 ^ 63) × IsVbeUnsigned n (take size bytes) }
+    ensures reads { (n : ℕ) (b rest : List ℕ) → n < 2 ^ 63 → IsVbeUnsigned n b
+        → unsigned_front (b ++ rest) ≡ Ok (n, length b) }
+    ensures spelled { (bytes : List ℕ) (n size : ℕ) → IsBytes bytes → unsigned_front bytes ≡ Ok (n, size)
+        → (size ≤ length bytes) × (n < 2 ^ 63) × IsVbeUnsigned n (take size bytes) }
 {}
 
 /// Bytes begin with a signed number exactly where they begin with its spelling.
 pub fn one_front_signed()
-    ensures reads { (z : ℤ) (b rest : List ℕ) → nat_abs z < 2 ^ 63 → IsVbeSigned z b → signed_front (b ++ rest) ≡ Ok (z, length b) }
-    ensures spelled { (bytes : List ℕ) (z : ℤ) (size : ℕ) → IsBytes bytes → signed_front bytes ≡ Ok (z, size) → (size ≤ length bytes) × (nat_abs z < 2 ^ 63) × IsVbeSigned z (take size bytes) }
+    ensures reads { (z : ℤ) (b rest : List ℕ) → nat_abs z < 2 ^ 63 → IsVbeSigned z b
+        → signed_front (b ++ rest) ≡ Ok (z, length b) }
+    ensures spelled { (bytes : List ℕ) (z : ℤ) (size : ℕ) → IsBytes bytes → signed_front bytes ≡ Ok (z, size)
+        → (size ≤ length bytes) × (nat_abs z < 2 ^ 63) × IsVbeSigned z (take size bytes) }
 {}
 
 /// Bytes begin with a varint exactly where they begin with a spelling of one.
 pub fn one_front_varint()
     ensures reads { (n : ℕ) (b rest : List ℕ) → IsVarint n b → varint_front (b ++ rest) ≡ Ok (n, length b) }
-    ensures spelled { (bytes : List ℕ) (n size : ℕ) → varint_front bytes ≡ Ok (n, size) → (size ≤ length bytes) × IsVarint n (take size bytes) }
+    ensures spelled { (bytes : List ℕ) (n size : ℕ) → varint_front bytes ≡ Ok (n, size)
+        → (size ≤ length bytes) × IsVarint n (take size bytes) }
 {}
 
 /// Each signed number is told by one number, and each number tells one.
@@ -52,6 +58,7 @@ pub fn greatest_root()
 /// Words keep the rules where they are a list of options that does, and an option's value is the one that stands there.
 pub fn words_as_options()
     ensures keep { (names words : List Text) → IsTrue (words_keep names words) ↔ KeepRules names words }
-    ensures value { (words : List Text) (options : Given) (name : Text) → Spells words options → word_of words name ≡ given_value name options }
+    ensures value { (words : List Text) (options : Given) (name : Text) → Spells words options
+        → word_of words name ≡ given_value name options }
     ensures one { (words : List Text) (options : Given) → Spells words options → options_of words ≡ Some options }
 {}

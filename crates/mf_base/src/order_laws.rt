@@ -12,5 +12,6 @@ pub fn one_order()
 /// Rows are ordered by their bytes, and a row that stands twice stays twice.
 #[tactic(auto, unfolding(crate::specs::Ascending::ascending))]
 pub fn ordered_rows()
-    ensures { ascending ((2 ∷ 0 ∷ []) ∷ (1 ∷ 9 ∷ []) ∷ (2 ∷ 0 ∷ []) ∷ (1 ∷ 8 ∷ []) ∷ []) ≡ (1 ∷ 8 ∷ []) ∷ (1 ∷ 9 ∷ []) ∷ (2 ∷ 0 ∷ []) ∷ (2 ∷ 0 ∷ []) ∷ [] }
+    ensures { ascending ((2 ∷ 0 ∷ []) ∷ (1 ∷ 9 ∷ []) ∷ (2 ∷ 0 ∷ []) ∷ (1 ∷ 8 ∷ []) ∷ [])
+        ≡ (1 ∷ 8 ∷ []) ∷ (1 ∷ 9 ∷ []) ∷ (2 ∷ 0 ∷ []) ∷ (2 ∷ 0 ∷ []) ∷ [] }
 {}

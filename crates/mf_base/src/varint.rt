@@ -9,8 +9,10 @@ use crate::number::VarintFault;
 /// Reads the varint at `at`, and gives the next place. At the end of the bytes and beyond there is none: `Short`.
 pub fn get_varint(bytes: &[u8], at: usize) -> Result<(u64, usize), VarintFault>
     // What is read is spelled so, and what is spelled so is read, whatever follows.
-    ensures found { IfOk result (λ r. (at < r.1) × (r.1 ≤ length bytes.now) × IsVarint r.0 (slice_range bytes.now at r.1)) }
-    ensures only { (n : ℕ) (b rest : List ℕ) → IsVarint n b → drop at bytes.now ≡ b ++ rest → result ≡ Ok (n, at + length b) }
+    ensures found { IfOk result (λ r. (at < r.1) × (r.1 ≤ length bytes.now)
+        × IsVarint r.0 (slice_range bytes.now at r.1)) }
+    ensures only { (n : ℕ) (b rest : List ℕ) → IsVarint n b → drop at bytes.now ≡ b ++ rest
+        → result ≡ Ok (n, at + length b) }
 
     // Which fault it is.
     ensures exact { result ≡ read_at at (varint_front (drop at bytes.now)) }

@@ -62,7 +62,8 @@ fn put_groups(out: &mut OutBuf, last: u8, sign: u8, magnitude: u64)
     out.put(&bytes[..size]);
 }
 
-// Spells at the front of bytes, and answers how many it takes: seven bits a byte while the rest is not below `last`, then
+// Spells at the front of bytes, and answers how many it takes: seven bits a byte while the rest is not below `last`,
+// then
 // the rest with the sign's bit.
 fn spell_groups(bytes: &mut [u8; 10], last: u8, sign: u8, magnitude: u64) -> usize
     requires some { 0 < last }

@@ -1,6 +1,7 @@
 //! The words of a command line.
 
-ghost use Rattle.std.specs.Prelude.{◌≡◌, ◌+◌, ◌<◌, ◌≤◌, ◌∷◌, None, map, drop, length, string_bytes, is_some, IsTrue, Some, [], ◌&&◌, is_none, slice_get, option_map, if◌then◌else◌, List};
+ghost use Rattle.std.specs.Prelude.{◌≡◌, ◌+◌, ◌<◌, ◌≤◌, ◌∷◌, None, map, drop, length, string_bytes, is_some, IsTrue};
+ghost use Rattle.std.specs.Prelude.{Some, [], ◌&&◌, is_none, slice_get, option_map, if◌then◌else◌, List};
 ghost use Rattle.mf_base.specs.Texts.{Text, begins, is_among};
 ghost use Rattle.mf_base.specs.Words.{Given, is_value, names_in, options_of, given_value, in_one_word, dash, dashes};
 ghost use Rattle.mf_base.specs.Words as rules;
@@ -27,7 +28,8 @@ pub fn words_keep(words: &[String], names: &str) -> bool
     }
 }
 
-/// The value of the option `--name`: what follows the first `=` of its word, or else the next word. The words are a list of
+/// The value of the option `--name`: what follows the first `=` of its word, or else the next word. The words are a
+/// list of
 /// options.
 pub fn word_of<'a>(words: &'a [String], name: &str) -> Option<&'a str>
     requires { IsTrue (is_some (options_of (map string_bytes words.now))) }
@@ -130,7 +132,8 @@ fn begins_with_dash(text: &str) -> bool
     text.starts_with("-")
 }
 
-// Whether an option keeps the rules: its name is one of the program's, and none of the options from a place on has it too.
+// Whether an option keeps the rules: its name is one of the program's, and none of the options from a place on has it
+// too.
 fn is_right(words: &[String], after: usize, names: &str, name: &str, value: &str) -> bool
     requires { after ≤ length words.now }
     ensures { (more : Given) → options_of (drop after (map string_bytes words.now)) ≡ Some more

@@ -6,4 +6,6 @@ pub returns-clause-number : goal.returns-clause-number
 returns-clause-number c = c.number_of.ensures ∙ narrow-short c.args.most c.args.digits.now c.requires
 
 pub returns-clause-few : goal.returns-clause-few
-returns-clause-few c = few-digits c.args.most c.args.digits.now _ (c.number_of.ensures ∙ narrow-short c.args.most c.args.digits.now c.requires)
+returns-clause-few c =
+    few-digits c.args.most c.args.digits.now _ (c.number_of.ensures
+    ∙ narrow-short c.args.most c.args.digits.now c.requires)

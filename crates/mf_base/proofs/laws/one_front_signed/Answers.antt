@@ -5,4 +5,5 @@ pub returns-clause-reads : goal.returns-clause-reads
 returns-clause-reads c = signed_reads
 
 pub returns-clause-spelled : goal.returns-clause-spelled
-returns-clause-spelled c bytes z size small e = let found = signed_front-found bytes z size small e in (found.within, found.fits, found.spelled)
+returns-clause-spelled c bytes z size small e = let found =
+    signed_front-found bytes z size small e in (found.within, found.fits, found.spelled)

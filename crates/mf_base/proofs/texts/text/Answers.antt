@@ -1,6 +1,7 @@
 use Rattle.std.proofs.Common.{arith, rules, inl, inr, length, ◌≤◌}
 use Rattle.mf_base.proofs.Present.{unreadable, readable}
-use Rattle.mf_base.proofs.texts.text.Goals.{then-is_empty-via-then-is_empty, then-is_empty-via-else-is_empty+then-bytes-gt1020}
+use Rattle.mf_base.proofs.texts.text.Goals.{then-is_empty-via-then-is_empty}
+use Rattle.mf_base.proofs.texts.text.Goals.{then-is_empty-via-else-is_empty+then-bytes-gt1020}
 use Rattle.mf_base.proofs.texts.text.Goals as goal
 
 pub returns-then-is_empty : goal.returns-then-is_empty
@@ -12,4 +13,5 @@ returns-then-is_empty c = elim c.then-is_empty.branch [
 pub returns : goal.returns
 returns c =
     let some : 1 ≤ length c.args.bytes.now = search rules in
-    readable _ c.args.bytes.now c.from_utf8.result c.ok.result some (omega arith) c.from_utf8.ensures.cases (search rules)
+    readable _ c.args.bytes.now c.from_utf8.result c.ok.result some (omega arith) c.from_utf8.ensures.cases
+    (search rules)
