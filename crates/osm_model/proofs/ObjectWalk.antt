@@ -1,5 +1,5 @@
 -- What holds of each object that a message in a block tells, holds of all objects of the block: laws on all objects cite this.
-use Rattle.std.proofs.Common.{pos, ◌≡◌, ◌==◌, ◌&&◌, ℕ, List, [], ◌∷◌, ◌++◌, refl, true, false, Bool, cond, Result, Ok, Err, Option, Some, None, ℤ, length}
+use Rattle.std.proofs.Common.{pos, ◌≡◌, ◌==◌, ◌&&◌, ℕ, List, [], ◌∷◌, ◌++◌, true, false, Bool, cond, Result, Ok, Err, Option, Some, None, ℤ, length}
 use Rattle.std.specs.Prelude.{flat_map}
 use Rattle.std.specs.List.{AllByRecursion}
 use Rattle.mf_base.proofs.StepLaws.{err_is_no_ok}

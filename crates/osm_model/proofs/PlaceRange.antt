@@ -1,13 +1,13 @@
 -- Places of stored coordinates and boxes of headers are on the earth, in microdegrees: laws on accepted inputs cite this.
-use Rattle.std.proofs.Common.{◌≡◌, ◌∙◌, ℕ, zero, suc, ◌*◌, ◌-◌, ◌/◌, ◌<◌, ◌≤◌, List, [], ◌∷◌, refl, sym, ap, arith, inl, inr, true, false, Bool, Result, Ok, Err, Option, Some, None, ℤ, pos, negsuc}
-use Rattle.std.specs.Prelude.{nat_abs, neg_ℤ, int_le, nat_le, filter_map, slice_get, unwrap_or}
+use Rattle.std.proofs.Common.{◌≡◌, ◌∙◌, ℕ, zero, suc, ◌*◌, ◌-◌, ◌/◌, ◌<◌, ◌≤◌, List, [], ◌∷◌, refl, sym, ap, arith, true, Result, Ok, Err, Option, Some, None, ℤ, pos, negsuc}
+use Rattle.std.specs.Prelude.{nat_abs, neg_ℤ, int_le, filter_map, slice_get, unwrap_or}
 use Rattle.std.specs.List.{cons_option, list_all}
 use Rattle.std.proofs.lemmas.Bool.{false≢true, le-leb, leb-true, and_parts}
 use Rattle.std.proofs.lemmas.Option.{none-some, same_Some}
 use Rattle.mf_base.specs.declared.place.Rect.{Rect}
 use Rattle.mf_base.specs.Ranges.{lies_within, is_latitude, is_longitude, is_on_earth, is_rect}
 use Rattle.mf_base.specs.Steps.{◌>>=◌, require, told_as, answer_of}
-use Rattle.mf_base.proofs.StepLaws.{err_is_no_ok, bind_ok, require_ok, told_ok, ok_is}
+use Rattle.mf_base.proofs.StepLaws.{err_is_no_ok, bind_ok, require_ok, ok_is}
 use Rattle.osm_model.specs.declared.faults.BlockFault.{BlockFault}
 use Rattle.osm_model.specs.declared.faults.BlockFault.TheVariants.{Wire, BadBox, RequiredFeature}
 use Rattle.osm_model.specs.declared.numbers.TheConstants.{BBOX_LEFT, BBOX_RIGHT, BBOX_TOP, BBOX_BOTTOM, HEADER_BLOCK_BBOX, HEADER_BLOCK_REQUIRED_FEATURES}

@@ -47,7 +47,7 @@ is_rising es h = let parts = rising_pairs es h in (parts.0, all_pairs Before es 
 pub rising_nil : IsRising []
 rising_nil = is_rising [] tt
 
-below_id : (id : ℤ) (n : ℕ) → int_le id (pos n) ≡ false → n < nat_abs id
+pub below_id : (id : ℤ) (n : ℕ) → int_le id (pos n) ≡ false → n < nat_abs id
 below_id (pos m) n e = leb-false m n e
 below_id (negsuc m) n e = absurd (false≢true (sym e))
 
@@ -113,14 +113,14 @@ above_none kind (e ∷ es) rising = ((λ k. rising.0), above_none kind es rising
 below_last : (kind : EntityKind) (n : ℕ) (es : List Entity) → Rises es → last_id kind es < n → OfKindBelow kind n es
 below_last kind n es rising h = (all_below kind n es None rising (above_none kind es rising) h).1
 
-order_parts : (before : List Entity) (kind : EntityKind) (id : ℤ) → order_fault before kind id ≡ None → (has_later_kind kind before ≡ false) × (last_id kind before < nat_abs id)
+pub order_parts : (before : List Entity) (kind : EntityKind) (id : ℤ) → order_fault before kind id ≡ None → (has_later_kind kind before ≡ false) × (int_le id (pos (last_id kind before)) ≡ false)
 order_parts before kind id e =
     elim (chosen (has_later_kind kind before) (Some entity_faults.KindOrder) (cond (int_le id (pos (last_id kind before))) (Some (entity_faults.OutOfOrder (last_id kind before) id)) None) None e) [
       | inl back ↦ absurd (some_no_none entity_faults.KindOrder back.1)
       | inr on ↦
           elim (chosen (int_le id (pos (last_id kind before))) (Some (entity_faults.OutOfOrder (last_id kind before) id)) None None on.1) [
             | inl low ↦ absurd (some_no_none (entity_faults.OutOfOrder (last_id kind before) id) low.1)
-            | inr above ↦ (on.0, below_id id (last_id kind before) above.0)
+            | inr above ↦ (on.0, above.0)
           ]
     ]
 
@@ -143,7 +143,7 @@ placed_rises before object e rising told h =
     let parts = order_parts before object.kind object.id (refuse_ok (order_fault before object.kind object.id) u tested) in
     let same = told e rest in
     let ranks : AllByRecursion (λ d. rank (kind_of d) ≤ rank (kind_of e)) before = subst (λ k. AllByRecursion (λ d. rank (kind_of d) ≤ rank k) before) (sym same.0) (no_later object.kind before parts.0) in
-    let last : last_id (kind_of e) before < id_of e = subst (λ n. last_id (kind_of e) before < n) (sym same.1) (subst (λ k. last_id k before < nat_abs object.id) (sym same.0) parts.1) in
+    let last : last_id (kind_of e) before < id_of e = subst (λ n. last_id (kind_of e) before < n) (sym same.1) (subst (λ k. last_id k before < nat_abs object.id) (sym same.0) (below_id object.id (last_id object.kind before) parts.1)) in
     rising_with before e rising (omega (arith, last)) (precede before e ranks (below_last (kind_of e) (id_of e) before rising last))
 
 pub in_order-rises : (objects : List (Result Object EntityFault)) (before : List Entity) → Rises before → AllHold Consistent objects → Rises (before ++ (in_order before objects).items)

@@ -1,21 +1,20 @@
 -- What is told of an object has its kind and its id.
-use Rattle.std.proofs.Common.{pos, ◌≡◌, ◌==◌, ◌&&◌, ℕ, List, [], ◌∷◌, ◌++◌, refl, subst, true, false, Bool, cond, Result, Ok, Err, Option, Some, None, ℤ, length}
-use Rattle.std.specs.Prelude.{nat_abs, flat_map}
-use Rattle.std.specs.List.{AllByRecursion, list_all}
+use Rattle.std.proofs.Common.{◌≡◌, ◌&&◌, ℕ, List, refl, subst, Result, Ok, Err, ℤ}
+use Rattle.std.specs.Prelude.{nat_abs}
+use Rattle.std.specs.List.{list_all}
 use Rattle.mf_base.specs.declared.kind.EntityKind.{EntityKind}
 use Rattle.mf_base.specs.Steps.{◌>>=◌, require, told_as}
 use Rattle.mf_base.specs.Ranges.{is_signed_64}
 use Rattle.mf_base.specs.Tags.{Tag}
 use Rattle.mf_base.proofs.StepLaws.{bind_ok, ok_is, err_is_no_ok}
 use Rattle.mf_base.specs.declared.kind.EntityKind.TheVariants as kinds
-use Rattle.osm_model.specs.declared.tables.TheConstants.{NODE, DENSE_NODES, WAY, RELATION}
-use Rattle.osm_model.specs.declared.faults.MessageFault.{MessageFault}
+use Rattle.osm_model.specs.declared.tables.TheConstants.{NODE, WAY, RELATION}
 use Rattle.osm_model.specs.declared.faults.EntityFault.{EntityFault}
 use Rattle.osm_model.specs.declared.faults.EntityFault.TheVariants as entity_faults
 use Rattle.osm_model.specs.Wire.{Field}
-use Rattle.osm_model.specs.Tables.{message, counted_bytes, packed_of, packed_sint64_of}
+use Rattle.osm_model.specs.Tables.{message, packed_of, packed_sint64_of}
 use Rattle.osm_model.specs.Blocks.{BlockHead, PrimitiveBlock, is_coordinate, place_of}
-use Rattle.osm_model.specs.Objects.{sint64_at, int64_at, indexed_tags, run_tags, running_sums, running_sums_from, members_of, runs_of, first_run, other_runs, left_over, zip_three, Object, TagRun, node_of, node_object, dense_node, with_runs, dense_from, dense_columns, dense_objects, way_of, way_object, relation_of, relation_object, objects_at, field_objects, group_fields, group_objects, block_objects}
+use Rattle.osm_model.specs.Objects.{sint64_at, int64_at, indexed_tags, run_tags, running_sums, members_of, Object, TagRun, node_of, node_object, dense_node, way_of, way_object, relation_of, relation_object, block_objects}
 use Rattle.osm_model.proofs.ObjectWalk.{Holds, AllHold, block_holds}
 use Rattle.osm_model.specs.Entities.{Member, Entity, node, way, relation, kind_of, id_of}
 

@@ -12,6 +12,7 @@ pub mod faults;
 pub mod laws;
 pub mod limits;
 pub mod numbers;
+pub mod range_laws;
 pub mod rows;
 pub mod rules;
 pub mod tables;
