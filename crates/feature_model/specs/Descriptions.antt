@@ -96,3 +96,12 @@ texts_of d = in_slot name d.name ++ in_slot house d.house ++ in_slot reference d
 -- the bytes of the texts taken together
 unfoldable pub texts_length : Description → ℕ
 texts_length d = sum_by (λ (t : TextSlot × Text). length t.1) (texts_of d)
+
+-- the bytes of a text, where it is there
+abbrev pub text_size : Option Text → ℕ
+text_size None = 0
+text_size (Some text) = length text
+
+-- the bytes of the texts among kept tags
+unfoldable pub kept_size : List Kept → ℕ
+kept_size tags = sum_by (λ (k : Kept). text_size (kept_text k.value)) tags

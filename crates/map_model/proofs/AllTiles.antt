@@ -19,8 +19,8 @@ use Rattle.map_model.specs.Intervals.{tile_place, interval_tiles, is_zoom_range,
 use Rattle.map_model.specs.NumberedMembers.{KeyBelow, TileBelow, tiles_of_some}
 use Rattle.mf_base.proofs.Pairs.{EachPair}
 use Rattle.map_model.proofs.MercatorLemmas.{greatest-le}
-use Rattle.map_model.proofs.Totals.{total, total-map, total-flat_map, total-same, total-zero, total-cut}
-use Rattle.map_model.proofs.Rising.{all-flat_map, all-map, all-from, all-imp, rises-map, rises-flat_map, rises-imp, rises-range, rises-enumerate}
+use Rattle.feature_model.proofs.Totals.{total, total-map, total-flat_map, total-same, total-zero, total-cut}
+use Rattle.feature_model.proofs.Rising.{all-flat_map, all-map, all-from, all-imp, rises-map, rises-flat_map, rises-imp, rises-range, rises-enumerate}
 
 -- ---- shared tiles
 

@@ -13,7 +13,7 @@ use Rattle.map_model.specs.SubFile.{TileContent, contents, entry_bytes, offset_o
 use Rattle.map_model.specs.TagLists.{TagLists}
 use Rattle.map_model.specs.Header.{HeadSettings, SubFile, header_size, header_bytes, sub_files, file_size}
 use Rattle.map_model.specs.MapFile.{all_contents, map_of_contents, map_of, sub_file_sizes}
-use Rattle.map_model.proofs.Totals.{total, sum-total, total-append, total-map}
+use Rattle.feature_model.proofs.Totals.{total, sum-total, total-append, total-map}
 use Rattle.map_model.proofs.SizeLemmas.{length-header_bytes, length-sub_file}
 
 abbrev sizes_total : List TileContent → ℕ

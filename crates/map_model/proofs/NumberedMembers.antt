@@ -13,8 +13,8 @@ use Rattle.map_model.specs.TileRects.{meets}
 use Rattle.map_model.specs.Intervals.{raised_zoom, zooms}
 use Rattle.map_model.specs.Members.{is_poi, is_way, class_of, of_zoom, by_zoom, in_tile_order, in_tile, members}
 use Rattle.map_model.specs.NumberedMembers.{KeyBelow, is_in_tile, of_zoom_by, by_zoom_by, in_tile_order_by, members_by, numbered_members}
-use Rattle.map_model.proofs.Totals.{total, total-append, total-flat_map, total-same, total-add, total-swap, total-filter, total-one}
-use Rattle.map_model.proofs.Rising.{all-append, all-flat_map, all-filter, all-passes, all-imp, all-both, rises-append, rises-filter, rises-flat_map, rises-imp, rises-range}
+use Rattle.feature_model.proofs.Totals.{total, total-append, total-flat_map, total-same, total-add, total-swap, total-filter, total-one}
+use Rattle.feature_model.proofs.Rising.{all-append, all-flat_map, all-filter, all-passes, all-imp, all-both, rises-append, rises-filter, rises-flat_map, rises-imp, rises-range}
 
 map-filter : {X Y : Type 0} (f : X → Y) (p : Y → Bool) (xs : List X) → map f (filter (λ x. p (f x)) xs) ≡ filter p (map f xs)
 map-filter f p [] = refl

@@ -15,8 +15,8 @@ use Rattle.map_model.specs.Rectangles.{rect_of}
 use Rattle.map_model.specs.TileRects.{has_tile, tile_rect, tiles_of, meets}
 use Rattle.map_model.specs.Intervals.{tile_place, interval_tiles, are_intervals}
 use Rattle.map_model.specs.NumberedMembers.{KeyBelow, key_numbers, tile_numbers, IsKeyBelow, TileBelow, is_in_tile, numbered_members, key_in, tile_keys, keys_of_tiles, shared_tiles, interval_keys, put_keys, all_keys}
-use Rattle.map_model.proofs.Totals.{total, total-map, total-flat_map, total-same, total-zero, total-swap, sum-total, length-total}
-use Rattle.map_model.proofs.Rising.{all-map, all-from, all-imp, rises-map, rises-flat_map, rises-imp, rises-enumerate}
+use Rattle.feature_model.proofs.Totals.{total, total-map, total-flat_map, total-same, total-zero, total-swap, sum-total, length-total}
+use Rattle.feature_model.proofs.Rising.{all-map, all-from, all-imp, rises-map, rises-flat_map, rises-imp, rises-enumerate}
 use Rattle.map_model.proofs.NumberedMembers.{MemberBelow, NumberBelow, members-total, members-rise}
 use Rattle.map_model.proofs.AllTiles.{IsSound, shared-total, tiles-rise, intervals-sound}
 

@@ -6,7 +6,7 @@ use Rattle.std.proofs.lemmas.Bool.{cases_Bool, cases_lt, eq-eqb, ne_eqb, not-tru
 use Rattle.mf_base.proofs.Pairs.{EachPair, each_pair}
 use Rattle.mf_base.specs.declared.tile.Interval.{Interval}
 use Rattle.feature_model.specs.Features.{Feature}
-use Rattle.map_model.proofs.Rising.{all-imp, all-filter, all-passes, rises-filter, rises-imp}
+use Rattle.feature_model.proofs.Rising.{all-imp, all-filter, all-passes, rises-filter, rises-imp}
 use Rattle.map_model.specs.Intervals.{raised_zoom, zooms}
 use Rattle.map_model.specs.Members.{is_poi, is_way, class_of, of_zoom, by_zoom, in_tile_order, StandsBefore, StandInOrder}
 

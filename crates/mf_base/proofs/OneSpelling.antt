@@ -53,7 +53,7 @@ vbe-more last sign m some large =
     (inr (large, refl, vbe-is last sign (m / 128) some)))
 
 -- a number below last * 128 ^ k has at most k + 1 bytes
-length-vbe-le : (k last sign m : ℕ) → 0 < last → m < last * 128 ^ k → length (vbe last sign m) ≤ suc k
+pub length-vbe-le : (k last sign m : ℕ) → 0 < last → m < last * 128 ^ k → length (vbe last sign m) ≤ suc k
 length-vbe-le zero last sign m some fits = rw (vbe-small last sign m (omega (arith, fits))) (omega arith)
 length-vbe-le (suc k) last sign m some fits =
     elim (cases_lt m last) [
