@@ -1,5 +1,6 @@
 pub mod Counting
-pub mod Taking
-pub mod Putting
 pub mod MemoryParts
 pub mod OrderedInMemory
+pub mod Putting
+pub mod Taking
+pub mod Walking

@@ -3,3 +3,4 @@ pub mod Device
 pub mod Memory
 pub mod Spill
 pub mod MemoryStore
+pub mod Stream

@@ -8,7 +8,7 @@ use Rattle.mf_base.specs.Spelling.{big_endian}
 use Rattle.mf_base.specs.Steps.{◌>>=◌, require, told_as}
 use Rattle.mf_base.proofs.StepLaws.{bind_ok, ok_is, require_ok, told_ok, ok_or_ok}
 use Rattle.mf_base.proofs.BigBytes.{big_bytes-big_number}
-use Rattle.mf_edge.specs.Device.{HasNone}
+use Rattle.mf_edge.specs.Device.{SourceState, IsAtEnd}
 use Rattle.osm_model.specs.declared.faults.FrameFault.{FrameFault}
 use Rattle.osm_model.specs.declared.faults.FrameFault.TheVariants.{BlobSize, HeaderLength, HeaderWire, NoKind, NoSize, TooLong, Truncated}
 use Rattle.osm_model.specs.declared.limits.TheConstants.{BLOB_LIMIT, HEADER_LIMIT, OFFSET_LIMIT}
@@ -92,18 +92,18 @@ front-body at four head more kind size h read =
 none_of_some : (x : ℕ) (xs : List ℕ) → 0 < length xs → xs ≢ []
 none_of_some x xs some e = omega (arith, ap length e)
 
-pub begins-too_long : (at first : ℕ) (left : Option (List ℕ)) → OFFSET_LIMIT ≤ at → BeginsNoBlob at TooLong left (first ∷ [])
+pub begins-too_long : (at first : ℕ) (source : SourceState) → OFFSET_LIMIT ≤ at → BeginsNoBlob at TooLong source (first ∷ [])
 unfolding frame_front
-begins-too_long at first left far = (none_of_some 0 (first ∷ []) (omega arith), inl (λ more. rw (le-ltb at OFFSET_LIMIT far) refl))
+begins-too_long at first source far = (none_of_some 0 (first ∷ []) (omega arith), inl (λ more. rw (le-ltb at OFFSET_LIMIT far) refl))
 
-pub begins-length_cut : (at first : ℕ) (rest : List ℕ) (left : Option (List ℕ)) → at < OFFSET_LIMIT → length rest < 3 → HasNone left → BeginsNoBlob at (Truncated (1 + length rest)) left (first ∷ rest)
+pub begins-length_cut : (at first : ℕ) (rest : List ℕ) (source : SourceState) → at < OFFSET_LIMIT → length rest < 3 → IsAtEnd source → BeginsNoBlob at (Truncated (1 + length rest)) source (first ∷ rest)
 unfolding frame_front
-begins-length_cut at first rest left near short end =
+begins-length_cut at first rest source near short end =
     (none_of_some 0 (first ∷ rest) (omega arith), inr (rw (lt-ltb at OFFSET_LIMIT near) (rw (part-cut (first ∷ rest) 4 (omega (arith, short))) (ap (λ n. Err (Truncated n)) (omega arith))), end))
 
-pub begins-header_length : (at : ℕ) (four : List ℕ) (left : Option (List ℕ)) → at < OFFSET_LIMIT → length four ≡ 4 → HEADER_LIMIT < big_number 4 four → BeginsNoBlob at HeaderLength left four
+pub begins-header_length : (at : ℕ) (four : List ℕ) (source : SourceState) → at < OFFSET_LIMIT → length four ≡ 4 → HEADER_LIMIT < big_number 4 four → BeginsNoBlob at HeaderLength source four
 unfolding frame_front
-begins-header_length at four left near count many =
+begins-header_length at four source near count many =
     (none_of_some 0 four (omega (arith, count)), inl (λ more. rw (lt-ltb at OFFSET_LIMIT near) (rw (part-ok four more 4 count) (rw (lt-leb (big_number 4 four) HEADER_LIMIT many) refl))))
 
 -- ---- a length and a BlobHeader
@@ -124,11 +124,11 @@ headed at n head x y h (count, kind, named, read) = record { four = x; bytes = y
 some_first : (at n : ℕ) (x y : List ℕ) → HasLength at n x → x ++ y ≢ []
 some_first at n x y h = none_of_some 0 (x ++ y) (omega (arith, h.count, length-append x y))
 
-pub head-fails : (at n : ℕ) (left : Option (List ℕ)) (f : FrameFault) (x y : List ℕ) → HasLength at n x → HeadFails n left f y → BeginsNoBlob at f left (x ++ y)
-head-fails at n left f x y h (inl (fault, short, end)) =
+pub head-fails : (at n : ℕ) (source : SourceState) (f : FrameFault) (x y : List ℕ) → HasLength at n x → HeadFails n source f y → BeginsNoBlob at f source (x ++ y)
+head-fails at n source f x y h (inl (fault, short, end)) =
     let front : frame_front at (x ++ y) ≡ Err (Truncated (0 + length y)) = front-length at n x y h ∙ ap (λ r. r >>= λ b. head_of b >>= behind_head (x ++ y) n) (part-cut y n short) ∙ ap (λ k. Err (Truncated k)) (omega arith) in
-    subst (λ g. BeginsNoBlob at g left (x ++ y)) (sym fault) (some_first at n x y h, inr (front, end))
-head-fails at n left f x y h (inr (count, e)) =
+    subst (λ g. BeginsNoBlob at g source (x ++ y)) (sym fault) (some_first at n x y h, inr (front, end))
+head-fails at n source f x y h (inr (count, e)) =
     let told = subst (λ k. HasLength at k x) (sym count) h in
     (some_first at n x y h, inl (λ more. ap (frame_front at) (append_assoc x y more) ∙ front-head at x y more told ∙ ap (λ r. r >>= behind_head (x ++ (y ++ more)) (length y)) e))
 
@@ -145,13 +145,13 @@ three_parts x four bytes y whole = ap (λ b. b ++ y) whole ∙ append_assoc four
 some_blob : (at : ℕ) (head : BlobHead) (x y : List ℕ) → IsHeaded at head x → x ++ y ≢ []
 some_blob at head x y h = none_of_some 0 (x ++ y) (omega (arith, h.told.count, ap length h.whole, length-append h.four h.bytes, length-append x y))
 
-pub blob-fails : (at : ℕ) (head : BlobHead) (left : Option (List ℕ)) (f : FrameFault) (x y : List ℕ) → IsHeaded at head x → BlobFails head left f y → BeginsNoBlob at f left (x ++ y)
-blob-fails at head left f x y h (inl (fault, short, end)) =
+pub blob-fails : (at : ℕ) (head : BlobHead) (source : SourceState) (f : FrameFault) (x y : List ℕ) → IsHeaded at head x → BlobFails head source f y → BeginsNoBlob at f source (x ++ y)
+blob-fails at head source f x y h (inl (fault, short, end)) =
     let front : frame_front at (x ++ y) ≡ Err (Truncated (0 + length y)) =
     ap (frame_front at) (three_parts x h.four h.bytes y h.whole) ∙ front-body at h.four h.bytes y h.kind head.size h.told h.read
     ∙ ap (λ r. r >>= λ body. content_in h.kind body >>= λ content. Ok (content, 4 + length h.bytes + head.size)) (part-cut y head.size short) ∙ ap (λ k. Err (Truncated k)) (omega arith) in
-    subst (λ g. BeginsNoBlob at g left (x ++ y)) (sym fault) (some_blob at head x y h, inr (front, end))
-blob-fails at head left f x y h (inr (count, some, e)) =
+    subst (λ g. BeginsNoBlob at g source (x ++ y)) (sym fault) (some_blob at head x y h, inr (front, end))
+blob-fails at head source f x y h (inr (count, some, e)) =
     let failed = content-fails head.kind h.kind y f some h.named e in (
       some_blob at head x y h,
       inl (λ more.
@@ -193,13 +193,13 @@ spells at head x y content h count type holds =
       body_holds = holds;
     }
 
-pub blob-spells : (at : ℕ) (head : BlobHead) (block : List ℕ) (left : Option (List ℕ)) (step : Step) (x y : List ℕ) → IsHeaded at head x → (length y ≡ head.size) × HoldsBlob head.kind at block step y → SpellsStep at block left step (x ++ y)
-blob-spells at head block left step x y h (count, holds) = go head.kind step h.named holds
+pub blob-spells : (at : ℕ) (head : BlobHead) (block : List ℕ) (source : SourceState) (step : Step) (x y : List ℕ) → IsHeaded at head x → (length y ≡ head.size) × HoldsBlob head.kind at block step y → SpellsStep at block source step (x ++ y)
+blob-spells at head block source step x y h (count, holds) = go head.kind step h.named holds
   where
-    kept : (k : BlobKind) (f : Frame) → f.at ≡ at → f.kind ≡ k → SpellsFrame (content_shown k (slice_range block f.start f.end)) (x ++ y) → SpellsStep at block left (Kept f) (x ++ y)
+    kept : (k : BlobKind) (f : Frame) → f.at ≡ at → f.kind ≡ k → SpellsFrame (content_shown k (slice_range block f.start f.end)) (x ++ y) → SpellsStep at block source (Kept f) (x ++ y)
     kept k f place is spelled = (h.told.near, place, subst (λ j. SpellsFrame (content_shown j (slice_range block f.start f.end)) (x ++ y)) (sym is) spelled)
 
-    go : (k : Option BlobKind) (step : Step) → IsKind k h.kind → HoldsBlob k at block step y → SpellsStep at block left step (x ++ y)
+    go : (k : Option BlobKind) (step : Step) → IsKind k h.kind → HoldsBlob k at block step y → SpellsStep at block source step (x ++ y)
     go (Some Header) (Kept f) is (place, kind, raw) = kept Header f place kind (spells at head x y (header (slice_range block f.start f.end)) h count (sym is) (raw_found _ y raw))
     go (Some Primitive) (Kept f) is (place, kind, raw) = kept Primitive f place kind (spells at head x y (primitive (slice_range block f.start f.end)) h count (sym is) (raw_found _ y raw))
     go None Passed is holds = (h.told.near, h.kind, spells at head x y (unread h.kind) h count refl is)

@@ -2,7 +2,8 @@
 use Rattle.std.proofs.Common.{◌≡◌, ◌∙◌, ℕ, ◌+◌, ◌<◌, List, [], ◌∷◌, ◌++◌, length, refl, sym, ap, subst, arith, true, Option, Some, Result, Ok, Err, append_assoc, append-nil, length-append}
 use Rattle.std.specs.Prelude.{slice_range}
 use Rattle.std.proofs.lemmas.List.Elements.{filter-append}
-use Rattle.mf_edge.specs.Device.{HasNone}
+use Rattle.mf_edge.specs.Device.{SourceState, IsAtEnd}
+use Rattle.mf_edge.specs.Stream.{StreamState}
 use Rattle.osm_model.specs.declared.faults.FrameFault.{FrameFault}
 use Rattle.osm_model.specs.declared.limits.TheConstants.{OFFSET_LIMIT}
 use Rattle.osm_model.specs.Frames.{unread, Frame, AreFrames, SpellsFrame, is_known, PassesOver, LeadsTo}
@@ -12,9 +13,9 @@ use Rattle.pbf_frame.specs.declared.frame.BlobKind.{BlobKind}
 use Rattle.pbf_frame.specs.declared.frame.BlobKind.TheVariants.{Header, Primitive}
 use Rattle.pbf_frame.specs.declared.frame.Frame as given
 use Rattle.pbf_frame.specs.declared.blob_read.Step.TheVariants.{End, Passed, Kept}
-use Rattle.pbf_frame.specs.FrameReading.{Took, BeginsNoBlob, FailsBehind, TakesBlobs, frame_shown, content_shown}
+use Rattle.pbf_frame.specs.FrameReading.{HasTaken, BeginsNoBlob, FailsBehind, TakesBlobs, frame_shown, content_shown}
 use Rattle.pbf_frame.specs.BlobReading.{FailsAt, SpellsStep}
-use Rattle.pbf_frame.proofs.TakenSteps.{Took-then}
+use Rattle.pbf_frame.proofs.TakenSteps.{taken-then}
 
 -- ---- blobs one after another
 
@@ -27,8 +28,8 @@ frames_join at (f ∷ fs) gs x y (front, rest, placed, near, spelled, more, whol
 one_frame : (f : Frame) (at : ℕ) (y : List ℕ) → f.at ≡ at → at < OFFSET_LIMIT → SpellsFrame f.content y → AreFrames at y (f ∷ [])
 one_frame f at y placed near spelled = (y, [], placed, near, spelled, refl, sym (append-nil y))
 
-pub passes-more : (at m : ℕ) (block : List ℕ) (left : Option (List ℕ)) (x y : List ℕ) → PassesOver at x → m ≡ at + length x → SpellsStep m block left Passed y → PassesOver at (x ++ y)
-passes-more at m block left x y h place (near, kind, spelled) =
+pub passes-more : (at m : ℕ) (block : List ℕ) (source : SourceState) (x y : List ℕ) → PassesOver at x → m ≡ at + length x → SpellsStep m block source Passed y → PassesOver at (x ++ y)
+passes-more at m block source x y h place (near, kind, spelled) =
     let f : Frame = record { at = m; content = unread kind } in
     record {
       passed = h.passed ++ (f ∷ []);
@@ -40,36 +41,44 @@ known_shown : (kind : BlobKind) (at : ℕ) (raw : List ℕ) → is_known (record
 known_shown Header at raw = refl
 known_shown Primitive at raw = refl
 
-pub leads-to : (at m : ℕ) (block : List ℕ) (left : Option (List ℕ)) (f : given.Frame) (x y : List ℕ) → PassesOver at x → m ≡ at + length x → SpellsStep m block left (Kept f) y → LeadsTo at (x ++ y) (frame_shown block f)
-leads-to at m block left f x y h place (near, placed, spelled) = record {
+pub leads-to : (at m : ℕ) (block : List ℕ) (source : SourceState) (f : given.Frame) (x y : List ℕ) → PassesOver at x → m ≡ at + length x → SpellsStep m block source (Kept f) y → LeadsTo at (x ++ y) (frame_shown block f)
+leads-to at m block source f x y h place (near, placed, spelled) = record {
   passed = h.passed;
   unknown = h.unknown;
   known = known_shown f.kind f.at (slice_range block f.start f.end);
   spelled = frames_join at h.passed (frame_shown block f ∷ []) x y h.spelled (subst (λ n. AreFrames n y (frame_shown block f ∷ [])) place (one_frame (frame_shown block f) m y placed near spelled));
 }
 
-pub passes-end : (at m : ℕ) (block : List ℕ) (left : Option (List ℕ)) (x y : List ℕ) → PassesOver at x → SpellsStep m block left End y → PassesOver at (x ++ y) × HasNone left
-passes-end at m block left x y h (none, end) = (subst (PassesOver at) (sym (append-nil x) ∙ ap (λ b. x ++ b) (sym none)) h, end)
+pub passes-end : (at m : ℕ) (block : List ℕ) (source : SourceState) (x y : List ℕ) → PassesOver at x → SpellsStep m block source End y → PassesOver at (x ++ y) × IsAtEnd source
+passes-end at m block source x y h (none, end) = (subst (PassesOver at) (sym (append-nil x) ∙ ap (λ b. x ++ b) (sym none)) h, end)
 
 -- what was taken is as much as the offset rose
-counted : (before now : Option (List ℕ)) (at to : ℕ) (P : List ℕ → Type 0) → Took before at P now to → Took before at (λ x. P x × (to ≡ at + length x)) now to
-counted before now at to P h = record { bytes = h.bytes; taken = h.taken; counted = h.counted; holds = (h.holds, h.counted) }
+counted : (old new : StreamState) (P : List ℕ → Type 0) → HasTaken P old new → HasTaken (λ x. P x × (new.offset ≡ old.offset + length x)) old new
+counted old new P h = record { bytes = h.bytes; taken = h.taken; counted = h.counted; holds = (h.holds, h.counted) }
 
-pub took-passed : (before mid now : Option (List ℕ)) (at m to : ℕ) (block : List ℕ) → Took before at (PassesOver at) mid m → Took mid m (SpellsStep m block now Passed) now to → Took before at (PassesOver at) now to
-took-passed before mid now at m to block first h =
-    Took-then before mid now at m to (λ x. PassesOver at x × (m ≡ at + length x)) (SpellsStep m block now Passed) (PassesOver at) (counted before mid at m (PassesOver at) first) h (λ x y p q. passes-more at m block now x y p.0 p.1 q)
+-- blobs were passed over, and then so many bytes more were taken
+passed-then : (old mid new : StreamState) (Q R : List ℕ → Type 0) → HasTaken (PassesOver old.offset) old mid → HasTaken Q mid new
+    → ((x y : List ℕ) → PassesOver old.offset x → mid.offset ≡ old.offset + length x → Q y → R (x ++ y)) → HasTaken R old new
+passed-then old mid new Q R first second join =
+    taken-then old mid new (λ x. PassesOver old.offset x × (mid.offset ≡ old.offset + length x)) Q R (counted old mid (PassesOver old.offset) first) second (λ x y p q. join x y p.0 p.1 q)
 
-pub takes-blob : (before mid now : Option (List ℕ)) (at m to : ℕ) (block : List ℕ) (f : given.Frame) → Took before at (PassesOver at) mid m → Took mid m (SpellsStep m block now (Kept f)) now to → TakesBlobs before at block (Ok (Some f)) now to
-takes-blob before mid now at m to block f first h =
-    Took-then before mid now at m to (λ x. PassesOver at x × (m ≡ at + length x)) (SpellsStep m block now (Kept f)) (λ b. LeadsTo at b (frame_shown block f)) (counted before mid at m (PassesOver at) first) h (λ x y p q. leads-to at m block now f x y p.0 p.1 q)
+pub took-passed : (old mid new : StreamState) (block : List ℕ) → HasTaken (PassesOver old.offset) old mid → HasTaken (SpellsStep mid.offset block new.source Passed) mid new
+    → HasTaken (PassesOver old.offset) old new
+took-passed old mid new block first h =
+    passed-then old mid new (SpellsStep mid.offset block new.source Passed) (PassesOver old.offset) first h (λ x y p e q. passes-more old.offset mid.offset block new.source x y p e q)
 
-fails-behind : (at m told : ℕ) (fault : FrameFault) (left : Option (List ℕ)) (x y : List ℕ) → PassesOver at x → m ≡ at + length x → told ≡ m → BeginsNoBlob m fault left y → FailsBehind at told fault left (x ++ y)
-fails-behind at m told fault left x y h place same begins =
-    record { front = x; rest = y; whole = refl; passed = h; place = same ∙ place; begins = subst (λ n. BeginsNoBlob n fault left y) (sym same) begins }
+pub takes-blob : (old mid new : StreamState) (block : List ℕ) (f : given.Frame) → HasTaken (PassesOver old.offset) old mid → HasTaken (SpellsStep mid.offset block new.source (Kept f)) mid new
+    → TakesBlobs old block (Ok (Some f)) new
+takes-blob old mid new block f first h =
+    passed-then old mid new (SpellsStep mid.offset block new.source (Kept f)) (λ b. LeadsTo old.offset b (frame_shown block f)) first h (λ x y p e q. leads-to old.offset mid.offset block new.source f x y p e q)
 
-pub takes-fault : (before mid now : Option (List ℕ)) (at m to : ℕ) (block : List ℕ) (r : Result (Option given.Frame) NextFault) (fault : NextFault) → r ≡ Err fault → Took before at (PassesOver at) mid m
-    → FailsAt (λ f bytes. BeginsNoBlob m f now bytes) m mid m fault now to → TakesBlobs before at block r now to
-takes-fault before mid now at m to block r (next_fault.Frame told f) e first h =
-    rw e (Took-then before mid now at m to (λ x. PassesOver at x × (m ≡ at + length x)) (λ b. BeginsNoBlob m f now b) (FailsBehind at told f now) (counted before mid at m (PassesOver at) first) h.1
-    (λ x y p q. fails-behind at m told f now x y p.0 p.1 h.0 q))
-takes-fault before mid now at m to block r next_fault.Read e first h = rw e tt
+fails-behind : (at m told : ℕ) (fault : FrameFault) (source : SourceState) (x y : List ℕ) → PassesOver at x → m ≡ at + length x → told ≡ m → BeginsNoBlob m fault source y → FailsBehind at told fault source (x ++ y)
+fails-behind at m told fault source x y h place same begins =
+    record { front = x; rest = y; whole = refl; passed = h; place = same ∙ place; begins = subst (λ n. BeginsNoBlob n fault source y) (sym same) begins }
+
+pub takes-fault : (old mid new : StreamState) (block : List ℕ) (r : Result (Option given.Frame) NextFault) (fault : NextFault) → r ≡ Err fault → HasTaken (PassesOver old.offset) old mid
+    → FailsAt (λ f bytes. BeginsNoBlob mid.offset f new.source bytes) mid.offset mid fault new → TakesBlobs old block r new
+takes-fault old mid new block r (next_fault.Frame told f) e first h =
+    rw e (passed-then old mid new (λ b. BeginsNoBlob mid.offset f new.source b) (FailsBehind old.offset told f new.source) first h.1
+    (λ x y p same q. fails-behind old.offset mid.offset told f new.source x y p same h.0 q))
+takes-fault old mid new block r next_fault.Read e first h = rw e tt

@@ -1,11 +1,12 @@
 //! One blob, read from a stream into a block.
 
-ghost use Rattle.std.specs.Prelude.{◌≡◌, ◌⊎◌, ◌+◌, ◌-◌, ◌*◌, ◌<◌, ◌≤◌, ◌^◌, ◌∷◌, ◌≢◌, length, IfOk, IfSome, OnOk, Ok, Err, Some, None};
+ghost use Rattle.std.specs.Prelude.{◌≡◌, ◌≢◌, ◌+◌, ◌-◌, ◌<◌, ◌≤◌, ◌^◌, ◌∷◌, length, IfOk, IfSome, OnOk, Ok, Err, Some, None};
 ghost use Rattle.byteorder.specs.Endian.{big_number};
 ghost use Rattle.mf_base.specs.Spelling.{IsBytes};
-ghost use Rattle.mf_edge.specs.Device.{CountsOne};
-ghost use Rattle.pbf_frame.specs.FrameReading.{BeginsNoBlob};
-ghost use Rattle.pbf_frame.specs.BlobReading.{Tells, IsCut, IsFirst, HasLength, HasHead, HeadFails, HoldsBlob, BlobFails, SpellsStep};
+ghost use Rattle.mf_edge.specs.Stream.{IsStep, FailsWhere, at};
+ghost use Rattle.osm_model.specs.declared.limits.TheConstants.{HEADER_LIMIT, BLOB_LIMIT, FRAME_LIMIT, OFFSET_LIMIT};
+ghost use Rattle.pbf_frame.specs.FrameReading.{BeginsNoBlob, IsInBlock};
+ghost use Rattle.pbf_frame.specs.BlobReading.{Tells, TellsBlob, IsOverBlob, IsCut, IsFirst, HasLength, HasHead, HeadFails, HoldsBlob, BlobFails};
 
 use crate::blob_head::{BlobHead, blob_head};
 use crate::blob_raw::raw_place;
@@ -31,48 +32,41 @@ pub(crate) fn read_blob<S: Source>(
     src: &mut Stream<S>,
     block: &mut Block,
 ) -> Result<Step, NextFault>
-    requires room { 33554432 ≤ block.old.capacity }
-    requires offset { src.old.offset < 2 ^ 63 - 1 }
-    ensures tells { Tells (SpellsStep src.old.offset block.new.bytes (S.state src.new.source.now).left) (λ fault bytes. BeginsNoBlob src.old.offset fault (S.state src.new.source.now).left bytes) src.old.offset (S.state src.old.source.now).left src.old.offset result (S.state src.new.source.now).left src.new.offset }
+    requires room { BLOB_LIMIT ≤ block.old.capacity }
+    requires offset { (at S.state src.old).offset < 2 ^ 63 - 1 }
+    ensures tells { TellsBlob (at S.state src.old) block.new.bytes result (at S.state src.new) }
 
-    ensures read { result ≡ Err NextFault.Read → CountsOne (S.state src.old.source.now).faults (S.state src.new.source.now).faults }
-    ensures same_faults { result ≢ Err NextFault.Read → (S.state src.new.source.now).faults ≡ (S.state src.old.source.now).faults }
-    ensures counts { (S.state src.old.source.now).faults ≤ (S.state src.new.source.now).faults }
-    ensures rises { src.old.offset ≤ src.new.offset }
-    ensures place { (f : Frame) → result ≡ Ok (Step.Kept f) → (f.start ≤ f.end) × (f.end ≤ length block.new.bytes) }
-    ensures near { (step : Step) → result ≡ Ok step → step ≢ Step.End → src.old.offset < 2 ^ 62 }
-    ensures far { src.new.offset ≤ src.old.offset + 33619971 }
-    ensures ends { 2 ^ 62 ≤ src.old.offset → src.new.offset ≤ src.old.offset + 1 }
-    ensures grows { (step : Step) → result ≡ Ok step → step ≢ Step.End → src.old.offset < src.new.offset }
-    ensures reads_of_one { (step : Step) → result ≡ Ok step → step ≢ Step.End → (S.state src.new.source.now).reads + 2 * src.old.offset ≤ (S.state src.old.source.now).reads + 2 * src.new.offset }
-    ensures reads { (S.state src.new.source.now).reads + 2 * src.old.offset ≤ (S.state src.old.source.now).reads + 2 * src.new.offset + 2 ^ 26 }
+    ensures place { (f : Frame) → result ≡ Ok (Step.Kept f) → IsInBlock f block.new.bytes }
+    ensures over { (step : Step) → result ≡ Ok step → step ≢ Step.End
+        → IsOverBlob (at S.state src.old) (at S.state src.new) }
+    ensures ends { OFFSET_LIMIT ≤ (at S.state src.old).offset
+        → (at S.state src.new).offset ≤ (at S.state src.old).offset + 1 }
+
+    ensures faults { FailsWhere (result ≡ Err NextFault.Read) (at S.state src.old) (at S.state src.new) }
+    ensures step { IsStep FRAME_LIMIT (at S.state src.old) (at S.state src.new) }
     ensures capacity { block.new.capacity ≡ block.old.capacity }
-    ensures same_reference { src.new.source.ghost_name ≡ src.old.source.ghost_name }
 {
-    let at = src.offset();
+    let begin = src.offset();
     let Some(first) = first_byte(src, block)? else {
         return Ok(Step::End);
     };
-    let size = head_size(src, block, at, first)?;
-    let head = read_head(src, block, at, size)?;
-    read_body(src, block, at, head)
+    let size = head_size(src, block, begin, first)?;
+    let head = read_head(src, block, begin, size)?;
+    read_body(src, block, begin, head)
 }
 
 // The first byte of a blob, or None at the end of the input.
 fn first_byte<S: Source>(src: &mut Stream<S>, block: &mut Block) -> Result<Option<u8>, NextFault>
     requires room { 1 ≤ block.old.capacity }
-    requires offset { src.old.offset < 2 ^ 63 - 1 }
-    ensures tells { Tells (IsFirst (S.state src.new.source.now).left) (λ _ _. ⊥) 0 (S.state src.old.source.now).left src.old.offset result (S.state src.new.source.now).left src.new.offset }
+    requires offset { (at S.state src.old).offset < 2 ^ 63 - 1 }
+    ensures tells { Tells (IsFirst (at S.state src.new).source) (λ _ _. ⊥) 0
+        (at S.state src.old) result (at S.state src.new) }
+    ensures passed { IfOk result (λ first. IfSome first
+        (λ _. (at S.state src.new).offset ≡ (at S.state src.old).offset + 1)) }
 
-    ensures read { result ≡ Err NextFault.Read → CountsOne (S.state src.old.source.now).faults (S.state src.new.source.now).faults }
-    ensures same_faults { result ≢ Err NextFault.Read → (S.state src.new.source.now).faults ≡ (S.state src.old.source.now).faults }
-    ensures counts { (S.state src.old.source.now).faults ≤ (S.state src.new.source.now).faults }
-    ensures rises { src.old.offset ≤ src.new.offset }
-    ensures passed { IfOk result (λ first. IfSome first (λ _. src.new.offset ≡ src.old.offset + 1)) }
-    ensures far { src.new.offset ≤ src.old.offset + 1 }
-    ensures reads { (S.state src.new.source.now).reads ≤ (S.state src.old.source.now).reads + 2 }
+    ensures faults { FailsWhere (result ≡ Err NextFault.Read) (at S.state src.old) (at S.state src.new) }
+    ensures step { IsStep 1 (at S.state src.old) (at S.state src.new) }
     ensures capacity { block.new.capacity ≡ block.old.capacity }
-    ensures same_reference { src.new.source.ghost_name ≡ src.old.source.ghost_name }
 {
     match src.fill(block, 1) {
         Ok(()) => Ok(Some(block.bytes()[0])),
@@ -85,38 +79,36 @@ fn first_byte<S: Source>(src: &mut Stream<S>, block: &mut Block) -> Result<Optio
 fn head_size<S: Source>(
     src: &mut Stream<S>,
     block: &mut Block,
-    at: u64,
+    begin: u64,
     first: u8,
 ) -> Result<usize, NextFault>
     requires room { 3 ≤ block.old.capacity }
-    requires offset { src.old.offset ≡ at + 1 }
-    requires within { at < 2 ^ 63 - 1 }
-    ensures tells { Tells (λ size bytes. HasLength at size (first ∷ bytes)) (λ fault bytes. BeginsNoBlob at fault (S.state src.new.source.now).left (first ∷ bytes)) at (S.state src.old.source.now).left src.old.offset result (S.state src.new.source.now).left src.new.offset }
+    requires offset { (at S.state src.old).offset ≡ begin + 1 }
+    requires within { begin < 2 ^ 63 - 1 }
+    ensures tells { Tells (λ size bytes. HasLength begin size (first ∷ bytes))
+        (λ fault bytes. BeginsNoBlob begin fault (at S.state src.new).source (first ∷ bytes)) begin
+        (at S.state src.old) result (at S.state src.new) }
 
-    ensures read { result ≡ Err NextFault.Read → CountsOne (S.state src.old.source.now).faults (S.state src.new.source.now).faults }
-    ensures same_faults { result ≢ Err NextFault.Read → (S.state src.new.source.now).faults ≡ (S.state src.old.source.now).faults }
-    ensures counts { (S.state src.old.source.now).faults ≤ (S.state src.new.source.now).faults }
-    ensures rises { src.old.offset ≤ src.new.offset }
-    ensures near { OnOk result (at < 2 ^ 62) }
-    ensures few { IfOk result (λ size. size ≤ 65535) }
-    ensures passed { OnOk result (src.new.offset ≡ src.old.offset + 3) }
-    ensures far { src.new.offset ≤ src.old.offset + 3 }
-    ensures ends { 2 ^ 62 ≤ at → src.new.offset ≡ src.old.offset }
-    ensures reads { (S.state src.new.source.now).reads ≤ (S.state src.old.source.now).reads + 4 }
+    ensures near { OnOk result (begin < OFFSET_LIMIT) }
+    ensures few { IfOk result (λ size. size ≤ HEADER_LIMIT) }
+    ensures passed { OnOk result ((at S.state src.new).offset ≡ (at S.state src.old).offset + 3) }
+    ensures ends { OFFSET_LIMIT ≤ begin → (at S.state src.new).offset ≡ (at S.state src.old).offset }
+
+    ensures faults { FailsWhere (result ≡ Err NextFault.Read) (at S.state src.old) (at S.state src.new) }
+    ensures step { IsStep 3 (at S.state src.old) (at S.state src.new) }
     ensures capacity { block.new.capacity ≡ block.old.capacity }
-    ensures same_reference { src.new.source.ghost_name ≡ src.old.source.ghost_name }
 {
-    if at >= OFFSET_LIMIT {
+    if begin >= OFFSET_LIMIT {
         return Err(NextFault::Frame {
-            at,
+            at: begin,
             fault: FrameFault::TooLong,
         });
     }
-    fill_part(src, block, 3, at, 1)?;
+    fill_part(src, block, 3, begin, 1)?;
     let size = length_of(first, block.bytes());
     if size > HEADER_LIMIT {
         return Err(NextFault::Frame {
-            at,
+            at: begin,
             fault: FrameFault::HeaderLength,
         });
     }
@@ -136,28 +128,25 @@ fn length_of(first: u8, rest: &[u8]) -> u32
 fn read_head<S: Source>(
     src: &mut Stream<S>,
     block: &mut Block,
-    at: u64,
+    begin: u64,
     size: usize,
 ) -> Result<BlobHead, NextFault>
     requires room { size ≤ block.old.capacity }
-    requires offset { src.old.offset + size < 2 ^ 63 }
-    ensures tells { Tells (HasHead size) (HeadFails size (S.state src.new.source.now).left) at (S.state src.old.source.now).left src.old.offset result (S.state src.new.source.now).left src.new.offset }
+    requires offset { (at S.state src.old).offset + size < 2 ^ 63 }
+    ensures tells { Tells (HasHead size) (HeadFails size (at S.state src.new).source) begin
+        (at S.state src.old) result (at S.state src.new) }
 
-    ensures read { result ≡ Err NextFault.Read → CountsOne (S.state src.old.source.now).faults (S.state src.new.source.now).faults }
-    ensures same_faults { result ≢ Err NextFault.Read → (S.state src.new.source.now).faults ≡ (S.state src.old.source.now).faults }
-    ensures counts { (S.state src.old.source.now).faults ≤ (S.state src.new.source.now).faults }
-    ensures rises { src.old.offset ≤ src.new.offset }
-    ensures few { IfOk result (λ head. head.size ≤ 33554432) }
-    ensures passed { OnOk result (src.new.offset ≡ src.old.offset + size) }
-    ensures far { src.new.offset ≤ src.old.offset + size }
-    ensures reads { (S.state src.new.source.now).reads ≤ (S.state src.old.source.now).reads + (size + 1) }
+    ensures few { IfOk result (λ head. head.size ≤ BLOB_LIMIT) }
+    ensures passed { OnOk result ((at S.state src.new).offset ≡ (at S.state src.old).offset + size) }
+
+    ensures faults { FailsWhere (result ≡ Err NextFault.Read) (at S.state src.old) (at S.state src.new) }
+    ensures step { IsStep size (at S.state src.old) (at S.state src.new) }
     ensures capacity { block.new.capacity ≡ block.old.capacity }
-    ensures same_reference { src.new.source.ghost_name ≡ src.old.source.ghost_name }
 {
-    fill_part(src, block, size, at, 0)?;
+    fill_part(src, block, size, begin, 0)?;
     match blob_head(block.bytes()) {
         Ok(head) => Ok(head),
-        Err(fault) => Err(NextFault::Frame { at, fault }),
+        Err(fault) => Err(NextFault::Frame { at: begin, fault }),
     }
 }
 
@@ -165,28 +154,26 @@ fn read_head<S: Source>(
 fn read_body<S: Source>(
     src: &mut Stream<S>,
     block: &mut Block,
-    at: u64,
+    begin: u64,
     head: BlobHead,
 ) -> Result<Step, NextFault>
     requires some_room { 1 ≤ block.old.capacity }
     requires room { head.size ≤ block.old.capacity }
-    requires offset { src.old.offset + head.size < 2 ^ 63 }
-    ensures tells { Tells (λ step bytes. (length bytes ≡ head.size) × HoldsBlob head.kind at block.new.bytes step bytes) (BlobFails head (S.state src.new.source.now).left) at (S.state src.old.source.now).left src.old.offset result (S.state src.new.source.now).left src.new.offset }
+    requires few { head.size ≤ BLOB_LIMIT }
+    requires offset { (at S.state src.old).offset + head.size < 2 ^ 63 }
+    ensures tells { Tells (λ step bytes. (length bytes ≡ head.size) × HoldsBlob head.kind begin block.new.bytes step bytes)
+        (BlobFails head (at S.state src.new).source) begin (at S.state src.old) result (at S.state src.new) }
 
-    ensures read { result ≡ Err NextFault.Read → CountsOne (S.state src.old.source.now).faults (S.state src.new.source.now).faults }
-    ensures same_faults { result ≢ Err NextFault.Read → (S.state src.new.source.now).faults ≡ (S.state src.old.source.now).faults }
-    ensures counts { (S.state src.old.source.now).faults ≤ (S.state src.new.source.now).faults }
-    ensures rises { src.old.offset ≤ src.new.offset }
-    ensures place { (f : Frame) → result ≡ Ok (Step.Kept f) → (f.start ≤ f.end) × (f.end ≤ length block.new.bytes) }
-    ensures passed { OnOk result (src.new.offset ≡ src.old.offset + head.size) }
-    ensures far { src.new.offset ≤ src.old.offset + head.size }
-    ensures reads { (S.state src.new.source.now).reads ≤ (S.state src.old.source.now).reads + (head.size + 1) }
+    ensures place { (f : Frame) → result ≡ Ok (Step.Kept f) → IsInBlock f block.new.bytes }
+    ensures passed { OnOk result ((at S.state src.new).offset ≡ (at S.state src.old).offset + head.size) }
+
+    ensures faults { FailsWhere (result ≡ Err NextFault.Read) (at S.state src.old) (at S.state src.new) }
+    ensures step { IsStep head.size (at S.state src.old) (at S.state src.new) }
     ensures capacity { block.new.capacity ≡ block.old.capacity }
-    ensures same_reference { src.new.source.ghost_name ≡ src.old.source.ghost_name }
 {
     match head.kind {
-        Some(kind) => read_raw(src, block, at, head.size, kind),
-        None => pass_over(src, block, at, head.size as u64),
+        Some(kind) => read_raw(src, block, begin, head.size, kind),
+        None => pass_over(src, block, begin, head.size as u64),
     }
 }
 
@@ -194,34 +181,33 @@ fn read_body<S: Source>(
 fn read_raw<S: Source>(
     src: &mut Stream<S>,
     block: &mut Block,
-    at: u64,
+    begin: u64,
     size: usize,
     kind: BlobKind,
 ) -> Result<Step, NextFault>
     requires room { size ≤ block.old.capacity }
-    requires offset { src.old.offset + size < 2 ^ 63 }
-    ensures tells { Tells (λ step bytes. (length bytes ≡ size) × HoldsBlob (Some kind) at block.new.bytes step bytes) (BlobFails (record { kind = Some kind; size = size }) (S.state src.new.source.now).left) at (S.state src.old.source.now).left src.old.offset result (S.state src.new.source.now).left src.new.offset }
+    requires few { size ≤ BLOB_LIMIT }
+    requires offset { (at S.state src.old).offset + size < 2 ^ 63 }
+    ensures tells { Tells (λ step bytes. (length bytes ≡ size) × HoldsBlob (Some kind) begin block.new.bytes step bytes)
+        (BlobFails (record { kind = Some kind; size = size }) (at S.state src.new).source) begin
+        (at S.state src.old) result (at S.state src.new) }
 
-    ensures read { result ≡ Err NextFault.Read → CountsOne (S.state src.old.source.now).faults (S.state src.new.source.now).faults }
-    ensures same_faults { result ≢ Err NextFault.Read → (S.state src.new.source.now).faults ≡ (S.state src.old.source.now).faults }
-    ensures counts { (S.state src.old.source.now).faults ≤ (S.state src.new.source.now).faults }
-    ensures rises { src.old.offset ≤ src.new.offset }
-    ensures place { (f : Frame) → result ≡ Ok (Step.Kept f) → (f.start ≤ f.end) × (f.end ≤ length block.new.bytes) }
-    ensures passed { OnOk result (src.new.offset ≡ src.old.offset + size) }
-    ensures far { src.new.offset ≤ src.old.offset + size }
-    ensures reads { (S.state src.new.source.now).reads ≤ (S.state src.old.source.now).reads + (size + 1) }
+    ensures place { (f : Frame) → result ≡ Ok (Step.Kept f) → IsInBlock f block.new.bytes }
+    ensures passed { OnOk result ((at S.state src.new).offset ≡ (at S.state src.old).offset + size) }
+
+    ensures faults { FailsWhere (result ≡ Err NextFault.Read) (at S.state src.old) (at S.state src.new) }
+    ensures step { IsStep size (at S.state src.old) (at S.state src.new) }
     ensures capacity { block.new.capacity ≡ block.old.capacity }
-    ensures same_reference { src.new.source.ghost_name ≡ src.old.source.ghost_name }
 {
-    fill_part(src, block, size, at, 0)?;
+    fill_part(src, block, size, begin, 0)?;
     match raw_place(block.bytes()) {
         Ok((start, end)) => Ok(Step::Kept(Frame {
             kind,
-            at,
+            at: begin,
             start,
             end,
         })),
-        Err(fault) => Err(NextFault::Frame { at, fault }),
+        Err(fault) => Err(NextFault::Frame { at: begin, fault }),
     }
 }
 
@@ -229,27 +215,25 @@ fn read_raw<S: Source>(
 fn pass_over<S: Source>(
     src: &mut Stream<S>,
     block: &mut Block,
-    at: u64,
+    begin: u64,
     size: u64,
 ) -> Result<Step, NextFault>
     requires room { 1 ≤ block.old.capacity }
-    requires offset { src.old.offset + size < 2 ^ 63 }
-    ensures tells { Tells (λ step bytes. (length bytes ≡ size) × HoldsBlob None at block.new.bytes step bytes) (BlobFails (record { kind = None; size = size }) (S.state src.new.source.now).left) at (S.state src.old.source.now).left src.old.offset result (S.state src.new.source.now).left src.new.offset }
+    requires offset { (at S.state src.old).offset + size < 2 ^ 63 }
+    ensures tells { Tells (λ step bytes. (length bytes ≡ size) × HoldsBlob None begin block.new.bytes step bytes)
+        (BlobFails (record { kind = None; size = size }) (at S.state src.new).source) begin
+        (at S.state src.old) result (at S.state src.new) }
 
-    ensures read { result ≡ Err NextFault.Read → CountsOne (S.state src.old.source.now).faults (S.state src.new.source.now).faults }
-    ensures same_faults { result ≢ Err NextFault.Read → (S.state src.new.source.now).faults ≡ (S.state src.old.source.now).faults }
-    ensures counts { (S.state src.old.source.now).faults ≤ (S.state src.new.source.now).faults }
-    ensures rises { src.old.offset ≤ src.new.offset }
-    ensures place { (f : Frame) → result ≡ Ok (Step.Kept f) → (f.start ≤ f.end) × (f.end ≤ length block.new.bytes) }
-    ensures passed { OnOk result (src.new.offset ≡ src.old.offset + size) }
-    ensures far { src.new.offset ≤ src.old.offset + size }
-    ensures reads { (S.state src.new.source.now).reads ≤ (S.state src.old.source.now).reads + (size + 1) }
+    ensures place { (f : Frame) → result ≢ Ok (Step.Kept f) }
+    ensures passed { OnOk result ((at S.state src.new).offset ≡ (at S.state src.old).offset + size) }
+
+    ensures faults { FailsWhere (result ≡ Err NextFault.Read) (at S.state src.old) (at S.state src.new) }
+    ensures step { IsStep size (at S.state src.old) (at S.state src.new) }
     ensures capacity { block.new.capacity ≡ block.old.capacity }
-    ensures same_reference { src.new.source.ghost_name ≡ src.old.source.ghost_name }
 {
     match src.skip(block, size) {
         Ok(()) => Ok(Step::Passed),
-        Err(FillFault::End { have }) => Err(truncated(at, have)),
+        Err(FillFault::End { have }) => Err(truncated(begin, have)),
         Err(FillFault::Read) => Err(NextFault::Read),
     }
 }
@@ -259,28 +243,25 @@ fn fill_part<S: Source>(
     src: &mut Stream<S>,
     block: &mut Block,
     size: usize,
-    at: u64,
+    begin: u64,
     had: u64,
 ) -> Result<(), NextFault>
     requires room { size ≤ block.old.capacity }
-    requires offset { src.old.offset + size < 2 ^ 63 }
+    requires offset { (at S.state src.old).offset + size < 2 ^ 63 }
     requires had { had ≤ 1 }
-    ensures tells { Tells (λ _ bytes. (bytes ≡ block.new.bytes) × (length bytes ≡ size)) (IsCut had size (S.state src.new.source.now).left) at (S.state src.old.source.now).left src.old.offset result (S.state src.new.source.now).left src.new.offset }
+    ensures tells { Tells (λ _ bytes. (bytes ≡ block.new.bytes) × (length bytes ≡ size))
+        (IsCut had size (at S.state src.new).source) begin (at S.state src.old) result (at S.state src.new) }
 
-    ensures read { result ≡ Err NextFault.Read → CountsOne (S.state src.old.source.now).faults (S.state src.new.source.now).faults }
-    ensures same_faults { result ≢ Err NextFault.Read → (S.state src.new.source.now).faults ≡ (S.state src.old.source.now).faults }
-    ensures counts { (S.state src.old.source.now).faults ≤ (S.state src.new.source.now).faults }
-    ensures rises { src.old.offset ≤ src.new.offset }
     ensures long { OnOk result (length block.new.bytes ≡ size) }
-    ensures passed { OnOk result (src.new.offset ≡ src.old.offset + size) }
-    ensures far { src.new.offset ≤ src.old.offset + size }
-    ensures reads { (S.state src.new.source.now).reads ≤ (S.state src.old.source.now).reads + (size + 1) }
+    ensures passed { OnOk result ((at S.state src.new).offset ≡ (at S.state src.old).offset + size) }
+
+    ensures faults { FailsWhere (result ≡ Err NextFault.Read) (at S.state src.old) (at S.state src.new) }
+    ensures step { IsStep size (at S.state src.old) (at S.state src.new) }
     ensures capacity { block.new.capacity ≡ block.old.capacity }
-    ensures same_reference { src.new.source.ghost_name ≡ src.old.source.ghost_name }
 {
     match src.fill(block, size) {
         Ok(()) => Ok(()),
-        Err(FillFault::End { have }) => Err(truncated(at, had + have)),
+        Err(FillFault::End { have }) => Err(truncated(begin, had + have)),
         Err(FillFault::Read) => Err(NextFault::Read),
     }
 }
