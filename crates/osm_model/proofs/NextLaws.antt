@@ -19,7 +19,7 @@ cons_no_nil : (f : Frame) (fs : List Frame) → f ∷ fs ≡ [] → ⊥
 cons_no_nil f fs e = cc
 
 -- a list without a known blob
-unknown_first : (f : Frame) (fs : List Frame) → known_frames (f ∷ fs) ≡ [] → (is_known f ≡ false) × (known_frames fs ≡ [])
+pub unknown_first : (f : Frame) (fs : List Frame) → known_frames (f ∷ fs) ≡ [] → (is_known f ≡ false) × (known_frames fs ≡ [])
 unknown_first f fs e =
     elim (cases_Bool (is_known f)) [
       | inl known ↦ absurd (cons_no_nil f (known_frames fs) (ap (λ c. cond c (f ∷ known_frames fs) (known_frames fs)) (sym known) ∙ e))

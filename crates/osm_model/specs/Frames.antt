@@ -145,6 +145,10 @@ is_known f = elim f.content [ header raw ↦ true | primitive raw ↦ true | unr
 abbrev pub known_frames : List Frame → List Frame
 known_frames fs = filter is_known fs
 
+-- the blobs of known types in bytes from this offset on, and the first fault
+abbrev pub known_at : ℕ → List ℕ → Reading Frame FrameFaultAt
+known_at at bytes = let read = frames_at at bytes in record { items = known_frames read.items; fault = read.fault }
+
 -- the first blob of a known type, or the fault before it, or None at the end of the input
 abbrev pub next_known : Reading Frame FrameFaultAt → Result (Option Frame) FrameFaultAt
 next_known read = elim (find is_known read.items) [

@@ -1,5 +1,5 @@
 -- Varints, fields and messages: Protocol Buffers, "Encoding", on base 128 varints, message structure and packed fields.
-use Rattle.std.specs.Prelude.{◌≡◌, ℕ, zero, suc, ◌+◌, ◌-◌, ◌*◌, ◌/◌, ◌%◌, ◌^◌, ◌<◌, ◌≤◌, ◌&&◌, ◌==◌, nat_lt, nat_le, if◌then◌else◌, List, [], ◌∷◌, ◌++◌, length, take, drop, Option, Some, None, ◌≢◌, Result, Ok, Err, ℤ}
+use Rattle.std.specs.Prelude.{◌≡◌, ℕ, zero, suc, ◌+◌, ◌-◌, ◌*◌, ◌/◌, ◌%◌, ◌<◌, ◌≤◌, ◌&&◌, ◌==◌, nat_lt, nat_le, if◌then◌else◌, List, [], ◌∷◌, ◌++◌, length, take, drop, Option, Some, None, ◌≢◌, Result, Ok, Err, ℤ}
 use Rattle.std.specs.Int.{w64, cast_signed}
 use Rattle.mf_base.specs.Spelling.{IsVarint}
 use Rattle.mf_base.specs.Steps.{◌>>=◌, require, told_as}

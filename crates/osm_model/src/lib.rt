@@ -9,6 +9,7 @@
 pub mod block_laws;
 pub mod entity_laws;
 pub mod faults;
+pub mod input_laws;
 pub mod laws;
 pub mod limits;
 pub mod numbers;
