@@ -3,7 +3,8 @@ use Rattle.std.specs.Prelude.{⊤}
 use Rattle.std.specs.Str.{is_utf8, chars}
 use lib.Utf8.{encode}
 use Rattle.mf_base.proofs.Compute as base
-use Rattle.osm_model.specs.Wire.{field_front, fields_behind, runs}
+use Rattle.mf_base.specs.Packed.{runs}
+use Rattle.osm_model.specs.Wire.{field_front, fields_behind}
 use Rattle.osm_model.specs.Tables.{fields_fault, message_fault, message}
 use Rattle.osm_model.specs.Frames.{raw_bytes, frame_front, frames_behind}
 use Rattle.osm_model.specs.Blocks.{place_of, box_in, header_box, block_head, strings_in, block_strings, block}

@@ -3,7 +3,8 @@ use Rattle.std.proofs.Common.{◌≡◌, ℕ, List, [], ◌∷◌, map, refl, sy
 use Rattle.std.proofs.lemmas.Bool.{and_parts, and_from}
 use Rattle.std.specs.List.{concat, list_all}
 use Rattle.mf_base.specs.Spelling.{sevens}
-use Rattle.osm_model.specs.Wire.{runs, is_varint, are_varints, packed_numbers, IsPacked}
+use Rattle.mf_base.specs.Packed.{runs, is_varint, are_varints, packed_numbers}
+use Rattle.osm_model.specs.Wire.{IsPacked}
 pub use Rattle.mf_base.proofs.PackedLaws.{runs-nil, runs-append, varint_is, is_varint_spells, concat-runs}
 
 pub packed_is : (b ns : List ℕ) → IsPacked b ns → (are_varints b ≡ true) × (packed_numbers b ≡ ns)

@@ -1,4 +1,6 @@
--- Header blocks, string tables and places: the OpenStreetMap wiki, "PBF Format", on HeaderBlock and PrimitiveBlock.
+-- Header blocks, string tables and places: the OpenStreetMap wiki, "PBF Format", on HeaderBlock and PrimitiveBlock. What a
+-- box has to be, the limit on strings, that strings are UTF-8, and the order in which faults are looked for, is this
+-- project's profile.
 use Rattle.std.specs.Prelude.{ℕ, Bool, not, ◌&&◌, ◌||◌, nat_le, List, length, Option, Some, None, option_map, ok_or, unwrap_or, position, Result, Ok, ℤ, pos, ◌+ℤ◌, ◌*ℤ◌, int_le, int_div, nat_abs, codes, bytes_eq}
 use Rattle.std.specs.List.{list_all}
 use Rattle.std.specs.Str.{is_utf8}
@@ -92,7 +94,7 @@ header_box raw = do
   _ ← require (list_all is_known_feature (bytes_of HEADER_BLOCK_REQUIRED_FEATURES fs)) RequiredFeature
   Ok box
 
--- ---- the head of a PrimitiveBlock
+-- ---- the head and the strings of a PrimitiveBlock
 
 -- the entries of a StringTable, or its first fault
 unfoldable pub strings_in : List ℕ → Result (List (List ℕ)) BlockFault

@@ -1,4 +1,6 @@
--- The blobs of an extract: the OpenStreetMap wiki, "PBF Format", on its file format.
+-- The blobs of an extract: the OpenStreetMap wiki, "PBF Format", on its file format. A blob is a length, a BlobHeader and a
+-- Blob; these two, with a capital, are messages. That the limit on datasize counts the whole Blob, that blobs begin below
+-- 2^62, that compressed data is refused, and the order in which faults are looked for, is this project's profile.
 use Rattle.std.specs.Prelude.{Bool, true, false, filter, Result, ◌≡◌, ◌≢◌, ℕ, zero, suc, ◌+◌, ◌-◌, ◌≤◌, ◌<◌, ◌&&◌, ◌==◌, nat_lt, nat_le, if◌then◌else◌, List, [], ◌∷◌, ◌++◌, length, take, drop, map, find, Option, Some, None, option_map, ok_or, Ok, Err, codes, bytes_eq, MatchOption, ⊤}
 use Rattle.byteorder.specs.Endian.{big_number}
 use Rattle.mf_base.specs.Spelling.{big_endian}
@@ -18,7 +20,7 @@ pub data Content : Type 0 where
   primitive : List ℕ → Content
   unread : List ℕ → Content
 
--- A blob with its offset in the input, which is that of its four length bytes.
+-- A frame is what a blob holds with the offset of the blob in the input, in bytes: that of its length.
 pub record Frame : Type 0 where
   pub at : ℕ
   pub content : Content
@@ -41,7 +43,7 @@ pub record IsBlobHeader (type : List ℕ) (size : ℕ) (b : List ℕ) : Type 0 w
   pub named : once_of BLOB_HEADER_TYPE fields ≡ Some type
   pub sized : number_of BLOB_HEADER_DATASIZE fields ≡ Some size
 
--- The bytes are a Blob that holds these raw bytes, and no others.
+-- The bytes are a Blob message that holds these raw bytes, and no other data.
 pub record IsBlob (raw : List ℕ) (b : List ℕ) : Type 0 where
   pub fields : List Field
   pub spelled : IsMessage b fields
@@ -50,7 +52,7 @@ pub record IsBlob (raw : List ℕ) (b : List ℕ) : Type 0 where
   pub held : once_of BLOB_RAW fields ≡ Some raw
   pub told : MatchOption (number_of BLOB_RAW_SIZE fields) ⊤ (λ size. size ≡ length raw)
 
--- The bytes of a blob of this content: the raw bytes where its type is known, and else any.
+-- The bytes are a Blob message that holds the raw bytes, where the type is known; of other types they may be any.
 abbrev pub HoldsContent : Content → List ℕ → Type 0
 HoldsContent (header raw) b = IsBlob raw b
 HoldsContent (primitive raw) b = IsBlob raw b
@@ -91,7 +93,7 @@ raw_bytes bytes = do
   _ ← refuse (raw_size_fault (number_of BLOB_RAW_SIZE fs) (length raw))
   Ok raw
 
--- what a blob of this type holds in these bytes
+-- what a blob of this type holds, by the bytes of its Blob
 abbrev pub content_in : List ℕ → List ℕ → Result Content FrameFault
 content_in type bytes =
     if bytes_eq type (codes "OSMHeader") then (raw_bytes bytes >>= λ raw. Ok (header raw))

@@ -1,4 +1,4 @@
--- What a whole input spells: its first fault, its objects and its box. This project's profile of the OpenStreetMap wiki, "PBF Format".
+-- What a whole input spells: its first fault, its entities and its box. This project's profile of the OpenStreetMap wiki, "PBF Format".
 use Rattle.std.specs.Prelude.{◌≡◌, ◌≢◌, ℕ, List, [], ◌∷◌, ◌++◌, length, flat_map, filter_map, slice_get, unwrap_or, Option, Some, None, option_map, Ok, Err, ⊤}
 use Rattle.std.specs.Option.{option_or}
 use Rattle.mf_base.specs.declared.place.Rect.{Rect}
@@ -13,7 +13,7 @@ use Rattle.osm_model.specs.Entities.{Entity}
 use Rattle.osm_model.specs.Objects.{block_objects, block_entities}
 use Rattle.osm_model.specs.Order.{in_order}
 
--- the first fault of a PrimitiveBlock behind these objects
+-- the first fault of a PrimitiveBlock behind these entities
 unfoldable pub block_fault : List Entity → List ℕ → Option InputCode
 block_fault before raw =
     elim (block raw) [
@@ -21,23 +21,23 @@ block_fault before raw =
       | Err fault ↦ Some (input_codes.Block fault)
     ]
 
--- the first fault of what a blob holds, behind these objects
+-- the first fault of what a blob holds, behind these entities
 abbrev pub content_fault : List Entity → Content → Option InputCode
 content_fault before (header raw) = option_map input_codes.Block (fault_of (header_box raw))
 content_fault before (primitive raw) = block_fault before raw
 content_fault before (unread kind) = None
 
--- the objects of a PrimitiveBlock, in the order of the bytes
+-- the entities of a PrimitiveBlock, in the order of the bytes
 unfoldable pub entities_in : List ℕ → List Entity
 entities_in raw = elim (block raw) [ Ok in_block ↦ block_entities in_block | Err fault ↦ [] ]
 
--- the objects of what a blob holds
+-- the entities of what a blob holds
 abbrev pub content_entities : Content → List Entity
 content_entities (header raw) = []
 content_entities (primitive raw) = entities_in raw
 content_entities (unread kind) = []
 
--- the objects of blobs, in the order of the bytes
+-- the entities of blobs, in the order of the bytes
 abbrev pub entities_of : List Frame → List Entity
 entities_of fs = flat_map (λ (f : Frame). content_entities f.content) fs
 
@@ -47,7 +47,7 @@ content_box (header raw) = unwrap_or (answer_of (header_box raw)) None
 content_box (primitive raw) = None
 content_box (unread kind) = None
 
--- The blobs whose content has no fault behind these objects and those of the blobs before it, up to the first fault.
+-- The blobs whose content has no fault behind these entities and those of the blobs before it, up to the first fault.
 unfoldable pub sound_frames : List Entity → List Frame → Reading Frame InputFault
 sound_frames before [] = all_read
 sound_frames before (f ∷ fs) =
@@ -70,7 +70,7 @@ input_fault bytes =
     let read = frames bytes in
     option_or (sound_frames [] read.items).fault (option_map as_input_fault read.fault)
 
--- The objects of an input, in the order of the bytes.
+-- The entities of an input, in the order of the bytes.
 unfoldable pub input_entities : List ℕ → List Entity
 input_entities bytes = entities_of (good_frames bytes)
 
@@ -82,16 +82,16 @@ input_box bytes = slice_get (filter_map (λ (f : Frame). content_box f.content) 
 abbrev pub known_box : Option Rect → List ℕ → Option Rect
 known_box words bytes = option_or words (input_box bytes)
 
--- Blobs whose content has no fault behind these objects and those of the blobs before it.
+-- Blobs whose content has no fault behind these entities and those of the blobs before it.
 abbrev pub AreSound : List Entity → List Frame → Type 0
 AreSound before [] = ⊤
 AreSound before (f ∷ fs) = (content_fault before f.content ≡ None) × AreSound (before ++ content_entities f.content) fs
 
--- the first step that bytes at this offset break, behind these objects
+-- the first step that bytes at this offset break, behind these entities
 abbrev pub first_step : List Entity → ℕ → List ℕ → Option InputCode
 first_step before at bytes = elim (frame_front at bytes) [ Ok found ↦ content_fault before found.0 | Err fault ↦ Some (input_codes.Frame fault) ]
 
--- Nothing is left, or bytes at this offset that break a step behind these objects.
+-- Nothing is left, or bytes at this offset that break a step behind these entities.
 abbrev pub InputEnds : List Entity → ℕ → List ℕ → Option InputFault → Type 0
 InputEnds before at rest None = rest ≡ []
 InputEnds before at rest (Some fault) = (rest ≢ []) × (fault.at ≡ at) × (first_step before at rest ≡ Some fault.code)

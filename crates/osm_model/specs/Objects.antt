@@ -1,4 +1,5 @@
--- The objects of a block: the OpenStreetMap wiki, "PBF Format", on PrimitiveGroup, Node, DenseNodes, Way and Relation.
+-- The objects of a block: the OpenStreetMap wiki, "PBF Format", on PrimitiveGroup, Node, DenseNodes, Way and Relation. That a group has one kind
+-- alone, and the order in which faults are looked for, is this project's profile.
 use Rattle.std.specs.Prelude.{◌<◌, ℕ, zero, suc, Bool, true, ◌&&◌, ◌==◌, nat_le, if◌then◌else◌, List, [], ◌∷◌, length, map, zip, flat_map, filter_map, filter, slice_get, Option, Some, None, option_map, ok_or, Result, Ok, Err, ℤ, pos, ◌+ℤ◌, nat_abs}
 use Rattle.std.specs.List.{list_all, AllByRecursion}
 use Rattle.mf_base.specs.Tags.{Tag, Tags}
@@ -16,7 +17,8 @@ use Rattle.osm_model.specs.Tables.{message, counted_bytes, number_of, packed_of,
 use Rattle.osm_model.specs.Blocks.{BlockHead, PrimitiveBlock, is_coordinate, place_of}
 use Rattle.osm_model.specs.Entities.{Member, Entity, node, way, relation}
 
--- An object before its place in the order is looked at: its kind and id, and what it is or its first fault behind the order.
+-- An object is an entity before its place in the order is looked at: its kind and id, which decide on its place, and
+-- what it is, or the first of its faults that are looked for behind its place.
 pub record Object : Type 0 where
   pub kind : EntityKind
   pub id : ℤ
@@ -70,7 +72,7 @@ node_of head id lat lon told = do
 abbrev pub sint64_at : ℕ → List Field → Result ℤ EntityFault
 sint64_at k fs = ok_or (option_map unzigzag_of (number_of k fs)) Missing
 
--- the object of a Node message, or its first fault before the order
+-- the object of a Node message, or the first of its faults that are looked for before its place
 unfoldable pub node_object : PrimitiveBlock → List ℕ → Result Object EntityFault
 node_object in_block bytes = do
   fs ← told_as Wire (message NODE bytes)
@@ -116,7 +118,7 @@ pairs_spelled pairs = flat_map (λ pair. pair.0 ∷ pair.1 ∷ []) pairs
 abbrev pub HasKeys : List (ℕ × ℕ) → Type 0
 HasKeys pairs = AllByRecursion (λ (pair : ℕ × ℕ). 0 < pair.0) pairs
 
--- the tags of a run with this end, behind those of its pairs
+-- the tags of a run whose pairs have these: they are all where it ends by a 0, and else there is the fault of its end
 abbrev pub end_of_run : List (List ℕ) → RunEnd → Tags → Result Tags EntityFault
 end_of_run strings by_zero tags = Ok tags
 end_of_run strings (behind_key k) tags = string_at strings k >>= λ key. Err KeyWithoutValue
@@ -203,7 +205,7 @@ way_of id refs told = do
 abbrev pub int64_at : ℕ → List Field → Result ℤ EntityFault
 int64_at k fs = ok_or (option_map int64 (number_of k fs)) Missing
 
--- the object of a Way message, or its first fault before the order
+-- the object of a Way message, or the first of its faults that are looked for before its place
 unfoldable pub way_object : PrimitiveBlock → List ℕ → Result Object EntityFault
 way_object in_block bytes = do
   fs ← told_as Wire (message WAY bytes)
@@ -212,7 +214,7 @@ way_object in_block bytes = do
 
 -- ---- relations
 
--- the kind of a member: 0 node, 1 way, 2 relation
+-- the kind of a member, by its type: 0 node, 1 way, 2 relation
 abbrev pub kind_at : ℕ → Result EntityKind EntityFault
 kind_at zero = Ok kinds.Node
 kind_at (suc zero) = Ok kinds.Way
@@ -240,7 +242,7 @@ relation_of id told_members told_tags = do
   members ← told_members
   Ok (relation (record { id = nat_abs id; members = members; tags = tags }))
 
--- the object of a Relation message, or its first fault before the order
+-- the object of a Relation message, or the first of its faults that are looked for before its place
 unfoldable pub relation_object : PrimitiveBlock → List ℕ → Result Object EntityFault
 relation_object in_block bytes = do
   fs ← told_as Wire (message RELATION bytes)
@@ -267,7 +269,7 @@ abbrev pub are_one : List ℕ → Bool
 are_one [] = true
 are_one (k ∷ ks) = list_all (λ j. j == k) ks
 
--- the numbers 1 to 5 of the fields of a group, each as often as it stands
+-- which of nodes, dense, ways, relations and changesets a group has, by their field numbers, each as often as it stands
 abbrev pub kinds_in : List Field → List ℕ
 kinds_in fs = filter (λ k. nat_le GROUP_NODES k && nat_le k GROUP_CHANGESETS) (map (λ (f : Field). f.number) fs)
 
@@ -290,10 +292,10 @@ group_objects in_block bytes =
 unfoldable pub block_objects : PrimitiveBlock → List (Result Object EntityFault)
 block_objects in_block = flat_map (group_objects in_block) in_block.groups
 
--- what an object is, whatever its place in the order, or None where it has a fault
+-- the entity that an object is, whatever its place in the order, or None where it has a fault
 abbrev pub told_entity : Result Object EntityFault → Option Entity
 told_entity told = answer_of (told >>= λ (object : Object). object.entity)
 
--- the objects of a block, whatever their order
+-- the entities of a block, whatever their order
 unfoldable pub block_entities : PrimitiveBlock → List Entity
 block_entities in_block = filter_map told_entity (block_objects in_block)

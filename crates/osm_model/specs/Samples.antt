@@ -29,7 +29,7 @@ bytes_of_digits _ = []
 abbrev pub hex : String → List ℕ
 hex digits = bytes_of_digits (codes digits)
 
--- a field of number k with fewer than 128 bytes
+-- a LEN field of number k, below 16, with fewer than 128 bytes
 abbrev pub len_field : ℕ → List ℕ → List ℕ
 len_field k bytes = (8 * k + 2) ∷ length bytes ∷ bytes
 

@@ -1,4 +1,5 @@
--- Varints, fields and messages: Protocol Buffers, "Encoding", on base 128 varints, message structure and packed fields.
+-- Varints, fields and messages: Protocol Buffers, "Encoding", on base 128 varints, message structure and packed fields. That
+-- groups (wire types 3 and 4) are refused, and the order in which faults are looked for, is this project's profile.
 use Rattle.std.specs.Prelude.{◌≡◌, ℕ, zero, suc, ◌+◌, ◌-◌, ◌*◌, ◌/◌, ◌%◌, ◌<◌, ◌≤◌, ◌&&◌, ◌==◌, nat_lt, nat_le, if◌then◌else◌, List, [], ◌∷◌, ◌++◌, length, take, drop, Option, Some, None, ◌≢◌, Result, Ok, Err, ℤ}
 use Rattle.std.specs.Int.{w64, cast_signed}
 use Rattle.mf_base.specs.Spelling.{IsVarint}
@@ -7,8 +8,6 @@ use Rattle.mf_base.specs.NumberReading.{varint_front}
 use Rattle.osm_model.specs.declared.limits.TheConstants.{FIELD_NUMBER_LIMIT}
 use Rattle.osm_model.specs.declared.faults.WireFault.{WireFault}
 use Rattle.osm_model.specs.declared.faults.WireFault.TheVariants.{Varint, Length, Kind}
-unfoldable pub use Rattle.mf_base.specs.Packed.{runs}
-pub use Rattle.mf_base.specs.Packed.{before_first, is_varint, are_varints, packed_numbers}
 use Rattle.osm_model.specs.Reading.{Reading, AreSpelled, all_read, stops_at, then_reads}
 
 -- The value of a field, under the name of its wire type: VARINT 0, I64 1, LEN 2, I32 5.

@@ -10,7 +10,8 @@ ghost use Rattle.osm_model.specs.declared.faults.WireFault.{WireFault};
 ghost use Rattle.osm_model.specs.declared.faults.EntityFault.{EntityFault};
 ghost use Rattle.osm_model.specs.declared.faults.InputFault.{InputFault};
 ghost use Rattle.osm_model.specs.declared.faults.BlockFault.TheVariants as block_faults;
-ghost use Rattle.osm_model.specs.Wire.{Field, IsMessage, ReadsFields, fields, IsPacked, are_varints, packed_numbers};
+ghost use Rattle.mf_base.specs.Packed.{are_varints, packed_numbers};
+ghost use Rattle.osm_model.specs.Wire.{Field, IsMessage, ReadsFields, fields, IsPacked};
 ghost use Rattle.osm_model.specs.Tables.{Table, FitsTable, message, bytes_of};
 ghost use Rattle.osm_model.specs.Frames.{Content, SpellsFrame, LeadsTo, PassesOver, frames_at, next_known, Frame, FrameFaultAt, ReadsFrames, frames};
 ghost use Rattle.osm_model.specs.Blocks.{PrimitiveBlock, block, strings_in};
@@ -72,7 +73,7 @@ pub fn objects_in_order()
     ensures parts { (before : List Entity) (objects others : List (Result Object EntityFault)) → (in_order before objects).fault ≡ None → in_order before (objects ++ others) ≡ with_front (in_order before objects).items (in_order (before ++ (in_order before objects).items) others) }
 {}
 
-/// One more object is the last of its kind, and changes nothing else of the order.
+/// One more entity is the last of its kind, and changes nothing else of the order.
 pub fn one_more_object()
     ensures last { (kind : EntityKind) (before : List Entity) (e : Entity) → last_id kind (before ++ e ∷ []) ≡ (if rank (kind_of e) == rank kind then id_of e else last_id kind before) }
     ensures later { (kind : EntityKind) (before : List Entity) (e : Entity) → has_later_kind kind (before ++ e ∷ []) ≡ (has_later_kind kind before || nat_lt (rank kind) (rank (kind_of e))) }
@@ -91,12 +92,12 @@ pub fn one_run_of_tags()
     ensures cut { (pairs : List (ℕ × ℕ)) (k : ℕ) → HasKeys pairs → 0 < k → tag_runs (pairs_spelled pairs ++ (k ∷ [])) ≡ record { pairs = pairs; ends = behind_key k } ∷ [] }
 {}
 
-/// The objects of a block without a fault are those that are read in order.
+/// The entities of a block without a fault are those that are read in order.
 pub fn entities_of_a_block()
     ensures { (before : List Entity) (raw : List ℕ) (b : PrimitiveBlock) → block raw ≡ Ok b → block_fault before raw ≡ None → entities_in raw ≡ (in_order before (block_objects b)).items }
 {}
 
-/// In the whole input, and in a block behind objects that rise, kinds do not go back, and the ids of each kind rise.
+/// In the whole input, and in a block behind entities that rise, kinds do not go back, and the ids of each kind rise.
 pub fn objects_rise()
     ensures in_a_block { (before : List Entity) (b : PrimitiveBlock) → IsRising before → IsRising (before ++ (in_order before (block_objects b)).items) }
     ensures in_the_input { (bytes : List ℕ) → IsRising (input_entities bytes) }

@@ -8,7 +8,8 @@ use Rattle.std.proofs.lemmas.List.{nil_from_length}
 use Rattle.mf_base.specs.Spelling.{vbe_unsigned, zigzag_of, unzigzag_of}
 use Rattle.mf_base.proofs.NumberLemmas.{zigzag-there}
 use Rattle.mf_base.proofs.SignLaws.{plus_difference}
-use Rattle.osm_model.specs.Wire.{IsPacked, are_varints, packed_numbers}
+use Rattle.mf_base.specs.Packed.{are_varints, packed_numbers}
+use Rattle.osm_model.specs.Wire.{IsPacked}
 use Rattle.osm_model.specs.Objects.{running_sums, running_sums_from}
 use Rattle.osm_model.proofs.ColumnLaws.{length-column, column_from-zero, column_from-cons}
 use Rattle.osm_model.proofs.PackedLaws.{packed_is}

@@ -7,7 +7,8 @@ use Rattle.mf_base.specs.Ranges.{is_signed_64}
 use Rattle.mf_base.specs.Spelling.{zigzag_of}
 use Rattle.mf_base.specs.declared.kind.EntityKind.TheVariants as kinds
 use Rattle.osm_model.specs.declared.tables.TheConstants.{PRIMITIVE_GROUP}
-use Rattle.osm_model.specs.Wire.{Field, are_varints}
+use Rattle.mf_base.specs.Packed.{are_varints}
+use Rattle.osm_model.specs.Wire.{Field}
 use Rattle.osm_model.specs.declared.tables.TheConstants.{DENSE_NODES}
 use Rattle.osm_model.specs.Tables.{FitsTable, fields_fault, message, packed_sint64_of, packed_of}
 use Rattle.osm_model.specs.Blocks.{PrimitiveBlock, is_coordinate}

@@ -2,7 +2,8 @@
 use Rattle.std.proofs.Common.{◌≡◌, ℕ, List, [], ◌∷◌, ◌++◌, map, refl, ap, ◌∙◌, arith, Bool, true, false, Ok}
 use Rattle.std.specs.Prelude.{if◌then◌else◌, flat_map, Some}
 use Rattle.mf_base.specs.Texts.{Text}
-use Rattle.osm_model.specs.Wire.{IsPacked, are_varints, packed_numbers}
+use Rattle.mf_base.specs.Packed.{are_varints, packed_numbers}
+use Rattle.osm_model.specs.Wire.{IsPacked}
 use Rattle.osm_model.specs.Objects.{TagRun, by_zero, tag_runs, runs_of, run_tags}
 use Rattle.osm_model.proofs.PackedLaws.{packed_is}
 use Rattle.osm_model.proofs.TagRunLaws.{run-closed}

@@ -11,7 +11,7 @@ use Rattle.mf_base.proofs.NumberLemmas.{zigzag-there}
 use Rattle.mf_base.proofs.SignLaws.{plus_difference}
 use Rattle.mf_base.proofs.OneSpelling.{length-vbe-positive}
 use Rattle.osm_model.specs.Blocks.{is_coordinate}
-use Rattle.osm_model.specs.Wire.{packed_numbers}
+use Rattle.mf_base.specs.Packed.{packed_numbers}
 use Rattle.osm_model.specs.Objects.{running_sums, running_sums_from, tag_runs}
 use Rattle.osm_model.proofs.PackedLaws.{runs-append}
 use Rattle.osm_model.proofs.ColumnLaws.{column_from-cons}

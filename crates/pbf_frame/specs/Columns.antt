@@ -1,7 +1,7 @@
 -- The columns of DenseNodes of the first form, read from front to back: this project's profile of the OpenStreetMap wiki, "PBF Format", on DenseNodes.
 use Rattle.std.specs.Prelude.{◌≡◌, ℕ, ◌^◌, ◌<◌, true, nat_lt, nat_abs, List, [], ◌∷◌, ◌++◌, length, map, flat_map, ℤ, pos, ◌-ℤ◌}
 use Rattle.mf_base.specs.Spelling.{vbe_unsigned, zigzag_of, unzigzag_of}
-use Rattle.osm_model.specs.Wire.{packed_numbers}
+use Rattle.mf_base.specs.Packed.{packed_numbers}
 use Rattle.osm_model.specs.Blocks.{is_coordinate}
 use Rattle.osm_model.specs.Objects.{running_sums_from, TagRun, tag_runs}
 use Rattle.pbf_frame.specs.declared.stored.StoredNode.{StoredNode}

@@ -11,7 +11,8 @@ use Rattle.mf_base.proofs.Runs.{high_run-low, high_run-high}
 use Rattle.mf_base.proofs.VarintRead.{read-none, answer-within}
 use Rattle.mf_base.proofs.NumberLemmas.{varint_reads, varint_found}
 use Rattle.mf_base.proofs.StepLaws.{err_is_no_ok}
-use Rattle.osm_model.specs.Wire.{runs, is_varint, are_varints, packed_numbers, IsPacked}
+use Rattle.mf_base.specs.Packed.{runs, is_varint, are_varints, packed_numbers}
+use Rattle.osm_model.specs.Wire.{IsPacked}
 use Rattle.osm_model.proofs.PackedLaws.{varint_is, packed_found, runs-nil, runs-append}
 
 -- what is read at the start is what stands in front

@@ -5,7 +5,7 @@ use Rattle.std.proofs.lemmas.List.{drop-drop, length-drop, get_or-drop, nil_from
 use Rattle.mf_base.specs.NumberReading.{varint_front}
 use Rattle.mf_base.specs.declared.number.VarintFault.TheVariants.{Short, Long}
 use Rattle.mf_base.proofs.VarintRead.{ReadSoFar, read-none, read-more, answer-within, answer-tenth, answer-long, answer-short}
-use Rattle.osm_model.specs.Wire.{are_varints}
+use Rattle.mf_base.specs.Packed.{are_varints}
 use Rattle.pbf_wire.proofs.PackedReads.{whole-first, whole-no, whole-nil}
 
 -- All varints before a place are whole, and the first bytes of the next stand behind it.

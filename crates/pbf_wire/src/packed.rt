@@ -2,7 +2,7 @@
 
 ghost use Rattle.std.specs.Prelude.{◌≡◌, true, drop, length, slice_get, option_map, count_by, nat_lt};
 ghost use Rattle.mf_base.specs.Spelling.{unzigzag_of};
-ghost use Rattle.osm_model.specs.Wire.{are_varints, packed_numbers};
+ghost use Rattle.mf_base.specs.Packed.{are_varints, packed_numbers};
 
 use crate::varint::first_varint;
 use mf_base::zigzag::unzigzag;
@@ -16,7 +16,7 @@ pub struct Packed<'a> {
 
 impl<'a> Model for Packed<'a> {
     ghost use Rattle.std.specs.Prelude.{List, ℕ, ◌≡◌, true};
-    ghost use Rattle.osm_model.specs.Wire.{are_varints, packed_numbers};
+    ghost use Rattle.mf_base.specs.Packed.{are_varints, packed_numbers};
 
     ghost Value = { List ℕ };
 

@@ -1,6 +1,6 @@
 use Rattle.std.proofs.Common.{◌≡◌, ◌∙◌, [], sym, ap, drop}
 use Rattle.std.specs.Prelude.{slice_get}
-use Rattle.osm_model.specs.Wire.{are_varints, packed_numbers}
+use Rattle.mf_base.specs.Packed.{are_varints, packed_numbers}
 use Rattle.std.proofs.lemmas.List.{take_rest}
 use Rattle.pbf_wire.proofs.PackedReads.{numbers-first, numbers-end, whole-first}
 use Rattle.pbf_wire.proofs.packed.Packed.next_u64.Goals as goal
