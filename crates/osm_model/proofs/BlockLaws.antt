@@ -10,11 +10,13 @@ use Rattle.osm_model.specs.declared.numbers.TheConstants.{BLOCK_PRIMITIVEGROUP}
 use Rattle.osm_model.specs.declared.tables.TheConstants.{PRIMITIVE_BLOCK}
 use Rattle.osm_model.specs.Wire.{Field, fields}
 use Rattle.osm_model.specs.Tables.{Table, message, message_fault, bytes_of}
-use Rattle.osm_model.specs.Blocks.{BlockHead, PrimitiveBlock, block, block_head, block_strings, block_head_of, strings_of}
+use Rattle.osm_model.specs.Blocks.{BlockHead, PrimitiveBlock, block, block_head, block_strings, block_head_of}
+use Rattle.osm_model.specs.Blocks.{strings_of}
 use Rattle.osm_model.proofs.TableMessageLaws.{message-none, message-some}
 
 -- the fields of a message are all that are read
-pub message-items : (table : Table) (bytes : List ℕ) (fs : List Field) → message table bytes ≡ Ok fs → fs ≡ (fields bytes).items
+pub message-items : (table : Table) (bytes : List ℕ) (fs : List Field) → message table bytes ≡ Ok fs
+    → fs ≡ (fields bytes).items
 message-items table bytes fs e = go (message_fault table bytes) refl
   where
     go : (o : Option MessageFault) → message_fault table bytes ≡ o → fs ≡ (fields bytes).items
@@ -73,7 +75,8 @@ block-whole raw b is =
     let found : message PRIMITIVE_BLOCK raw ≡ Ok fs = told_ok Wire _ fs read in
     let head : block_head_of fs ≡ b.head = ok_is _ _ r1 in
     let strings : strings_of fs ≡ Ok b.strings = sym (strings-from raw ∙ ap strings_from found) ∙ is.strings in
-    let groups : bytes_of BLOCK_PRIMITIVEGROUP fs ≡ b.groups = ap (bytes_of BLOCK_PRIMITIVEGROUP) (message-items PRIMITIVE_BLOCK raw fs found) ∙ sym is.groups in
+    let groups : bytes_of BLOCK_PRIMITIVEGROUP fs ≡ b.groups =
+    ap (bytes_of BLOCK_PRIMITIVEGROUP) (message-items PRIMITIVE_BLOCK raw fs found) ∙ sym is.groups in
     block-from raw ∙ ap block_from found ∙ ap (λ s. s >>= λ strings. Ok (made fs strings)) strings
     ∙ ap (λ h. Ok (record { head = h; strings = b.strings; groups = bytes_of BLOCK_PRIMITIVEGROUP fs })) head
     ∙ ap (λ g. Ok (record { head = b.head; strings = b.strings; groups = g })) groups
@@ -89,11 +92,14 @@ err_is f g e = cc
 no_ok : {A F : Type 0} (f : F) (x : A) → ◌≡◌ {A = Result A F} (Ok x) (Err f) → ⊥
 no_ok f x e = err_is_no_ok f x (sym e)
 
-strings_fault : (fs : List Field) (s : Result (List (List ℕ)) BlockFault) (fault : BlockFault) → ((s >>= λ strings. Ok (made fs strings)) ≡ Err fault) ↔ (s ≡ Err fault)
-strings_fault fs (Ok strings) fault = (λ e. absurd (no_ok fault (made fs strings) e), λ e. absurd (no_ok fault strings e))
+strings_fault : (fs : List Field) (s : Result (List (List ℕ)) BlockFault) (fault : BlockFault)
+    → ((s >>= λ strings. Ok (made fs strings)) ≡ Err fault) ↔ (s ≡ Err fault)
+strings_fault fs (Ok strings) fault =
+    (λ e. absurd (no_ok fault (made fs strings) e), λ e. absurd (no_ok fault strings e))
 strings_fault fs (Err told) fault = (err_as told fault, err_as told fault)
 
-same_fault : (r : Result (List Field) MessageFault) (fault : BlockFault) → (block_from r ≡ Err fault) ↔ (strings_from r ≡ Err fault)
+same_fault : (r : Result (List Field) MessageFault) (fault : BlockFault) → (block_from r ≡ Err fault)
+    ↔ (strings_from r ≡ Err fault)
 same_fault (Err told) fault = (err_as (Wire told) fault, err_as (Wire told) fault)
 same_fault (Ok fs) fault = strings_fault fs (strings_of fs) fault
 
@@ -104,11 +110,17 @@ block-fault raw fault =
       λ e. block-from raw ∙ same.1 (sym (strings-from raw) ∙ e),
     )
 
-head_fault : (r : Result (List Field) MessageFault) (fault : BlockFault) → (head_from r ≡ Err fault) ↔ ((told : MessageFault) × (r ≡ Err told) × (fault ≡ Wire told))
+head_fault : (r : Result (List Field) MessageFault) (fault : BlockFault) → (head_from r ≡ Err fault)
+    ↔ ((told : MessageFault) × (r ≡ Err told) × (fault ≡ Wire told))
 head_fault (Ok fs) fault = (λ e. absurd (no_ok fault (block_head_of fs) e), λ h. absurd (no_ok h.0 fs h.1))
-head_fault (Err told) fault = (λ e. (told, refl, sym (err_is (Wire told) fault e)), λ h. ap (λ f. Err (Wire f)) (err_is told h.0 h.1) ∙ ap Err (sym h.2))
+head_fault (Err told) fault = (
+  λ e. (told, refl, sym (err_is (Wire told) fault e)),
+  λ h. ap (λ f. Err (Wire f)) (err_is told h.0 h.1)
+      ∙ ap Err (sym h.2),
+)
 
-pub head-fault : (raw : List ℕ) (fault : BlockFault) → (block_head raw ≡ Err fault) ↔ ((told : MessageFault) × (message PRIMITIVE_BLOCK raw ≡ Err told) × (fault ≡ Wire told))
+pub head-fault : (raw : List ℕ) (fault : BlockFault) → (block_head raw ≡ Err fault)
+    ↔ ((told : MessageFault) × (message PRIMITIVE_BLOCK raw ≡ Err told) × (fault ≡ Wire told))
 head-fault raw fault =
     let same = head_fault (message PRIMITIVE_BLOCK raw) fault in (
       λ e. same.0 (sym (head-from raw) ∙ e),
@@ -116,7 +128,8 @@ head-fault raw fault =
     )
 
 pub block-in_parts : (raw : List ℕ) (b : PrimitiveBlock) → (block raw ≡ Ok b)
-    ↔ ((block_head raw ≡ Ok b.head) × (block_strings raw ≡ Ok b.strings) × (b.groups ≡ bytes_of BLOCK_PRIMITIVEGROUP (fields raw).items))
+    ↔ ((block_head raw ≡ Ok b.head) × (block_strings raw ≡ Ok b.strings)
+    × (b.groups ≡ bytes_of BLOCK_PRIMITIVEGROUP (fields raw).items))
 block-in_parts raw b = (
   λ e. let is = block-parts raw b e in (is.head, is.strings, is.groups),
   λ h. block-whole raw b (record { head = h.0; strings = h.1; groups = h.2 }),

@@ -1,18 +1,25 @@
--- Header blocks, string tables and places: the OpenStreetMap wiki, "PBF Format", on HeaderBlock and PrimitiveBlock. What a
+-- Header blocks, string tables and places: the OpenStreetMap wiki, "PBF Format", on HeaderBlock and PrimitiveBlock.
+-- What a
 -- box has to be, the limit on strings, that strings are UTF-8, and the order in which faults are looked for, is this
 -- project's profile.
-use Rattle.std.specs.Prelude.{ℕ, Bool, not, ◌&&◌, ◌||◌, nat_le, List, length, Option, Some, None, option_map, ok_or, unwrap_or, position, Result, Ok, ℤ, pos, ◌+ℤ◌, ◌*ℤ◌, int_le, int_div, nat_abs, codes, bytes_eq}
+use Rattle.std.specs.Prelude.{ℕ, Bool, not, ◌&&◌, ◌||◌, nat_le, List, length, Option, Some, None, option_map, ok_or}
+use Rattle.std.specs.Prelude.{unwrap_or, position, Result, Ok, ℤ, pos, ◌+ℤ◌, ◌*ℤ◌, int_le, int_div, nat_abs, codes}
+use Rattle.std.specs.Prelude.{bytes_eq}
 use Rattle.std.specs.List.{list_all}
 use Rattle.std.specs.Str.{is_utf8}
 use Rattle.mf_base.specs.declared.place.Place.{Place}
 use Rattle.mf_base.specs.declared.place.Rect.{Rect}
 use Rattle.mf_base.specs.Steps.{◌>>=◌, require, refuse, told_as}
 use Rattle.mf_base.specs.Spelling.{unzigzag_of}
-use Rattle.osm_model.specs.declared.numbers.TheConstants.{HEADER_BLOCK_BBOX, HEADER_BLOCK_REQUIRED_FEATURES, BBOX_LEFT, BBOX_RIGHT, BBOX_TOP, BBOX_BOTTOM, BLOCK_STRINGTABLE, BLOCK_PRIMITIVEGROUP, BLOCK_GRANULARITY, BLOCK_LAT_OFFSET, BLOCK_LON_OFFSET, STRINGTABLE_S}
+use Rattle.osm_model.specs.declared.numbers.TheConstants.{HEADER_BLOCK_BBOX, HEADER_BLOCK_REQUIRED_FEATURES, BBOX_LEFT}
+use Rattle.osm_model.specs.declared.numbers.TheConstants.{BBOX_RIGHT, BBOX_TOP, BBOX_BOTTOM, BLOCK_STRINGTABLE}
+use Rattle.osm_model.specs.declared.numbers.TheConstants.{BLOCK_PRIMITIVEGROUP, BLOCK_GRANULARITY, BLOCK_LAT_OFFSET}
+use Rattle.osm_model.specs.declared.numbers.TheConstants.{BLOCK_LON_OFFSET, STRINGTABLE_S}
 use Rattle.osm_model.specs.declared.limits.TheConstants.{STRINGS_LIMIT, LATITUDE_LIMIT, LONGITUDE_LIMIT}
 use Rattle.osm_model.specs.declared.tables.TheConstants.{HEADER_BLOCK, HEADER_BBOX, PRIMITIVE_BLOCK, STRING_TABLE}
 use Rattle.osm_model.specs.declared.faults.BlockFault.{BlockFault}
-use Rattle.osm_model.specs.declared.faults.BlockFault.TheVariants.{BadBox, Wire, RequiredFeature, TooManyStrings, NotText, NoStrings}
+use Rattle.osm_model.specs.declared.faults.BlockFault.TheVariants.{BadBox, Wire, RequiredFeature, TooManyStrings}
+use Rattle.osm_model.specs.declared.faults.BlockFault.TheVariants.{NotText, NoStrings}
 use Rattle.osm_model.specs.Wire.{Field, int64}
 use Rattle.osm_model.specs.Tables.{message, once_of, bytes_of, number_of}
 
@@ -46,7 +53,8 @@ lon_nano head lon = nano head.lon_offset head.granularity lon
 
 -- the stored latitude and longitude lie on the earth
 abbrev pub is_coordinate : BlockHead → ℤ → ℤ → Bool
-is_coordinate head lat lon = keeps_limit LATITUDE_LIMIT (lat_nano head lat) && keeps_limit LONGITUDE_LIMIT (lon_nano head lon)
+is_coordinate head lat lon =
+    keeps_limit LATITUDE_LIMIT (lat_nano head lat) && keeps_limit LONGITUDE_LIMIT (lon_nano head lon)
 
 -- The place of a stored latitude and longitude, in microdegrees.
 unfoldable pub place_of : BlockHead → ℤ → ℤ → Place
@@ -54,10 +62,12 @@ place_of head lat lon = record { lat = micro (lat_nano head lat); lon = micro (l
 
 -- ---- the HeaderBlock
 
--- the sides of a box, left, right, top and bottom in nanodegrees, are on the earth, left not above right and bottom not above top
+-- the sides of a box, left, right, top and bottom in nanodegrees, are on the earth, left not above right and bottom not
+-- above top
 abbrev pub are_sides : ℤ → ℤ → ℤ → ℤ → Bool
 are_sides left right top bottom =
-    keeps_limit LONGITUDE_LIMIT left && keeps_limit LONGITUDE_LIMIT right && keeps_limit LATITUDE_LIMIT top && keeps_limit LATITUDE_LIMIT bottom
+    keeps_limit LONGITUDE_LIMIT left && keeps_limit LONGITUDE_LIMIT right && keeps_limit LATITUDE_LIMIT top
+    && keeps_limit LATITUDE_LIMIT bottom
     && int_le left right && int_le bottom top
 
 -- the side of a HeaderBBox in the field with this number, in nanodegrees

@@ -1,20 +1,28 @@
--- The blobs of an extract: the OpenStreetMap wiki, "PBF Format", on its file format. A blob is a length, a BlobHeader and a
--- Blob; these two, with a capital, are messages. That the limit on datasize counts the whole Blob, that blobs begin below
+-- The blobs of an extract: the OpenStreetMap wiki, "PBF Format", on its file format. A blob is a length, a BlobHeader
+-- and a
+-- Blob; these two, with a capital, are messages. That the limit on datasize counts the whole Blob, that blobs begin
+-- below
 -- 2^62, that compressed data is refused, and the order in which faults are looked for, is this project's profile.
-use Rattle.std.specs.Prelude.{Bool, true, false, filter, Result, ◌≡◌, ◌≢◌, ℕ, zero, suc, ◌+◌, ◌-◌, ◌≤◌, ◌<◌, ◌&&◌, ◌==◌, nat_lt, nat_le, if◌then◌else◌, List, [], ◌∷◌, ◌++◌, length, take, drop, map, find, Option, Some, None, option_map, ok_or, Ok, Err, codes, bytes_eq, MatchOption, ⊤}
+use Rattle.std.specs.Prelude.{Bool, true, false, filter, Result, ◌≡◌, ◌≢◌, ℕ, zero, suc, ◌+◌, ◌-◌, ◌≤◌, ◌<◌, ◌&&◌, ◌==◌}
+use Rattle.std.specs.Prelude.{nat_lt, nat_le, if◌then◌else◌, List, [], ◌∷◌, ◌++◌, length, take, drop, map, find, Option}
+use Rattle.std.specs.Prelude.{Some, None, option_map, ok_or, Ok, Err, codes, bytes_eq, MatchOption, ⊤}
 use Rattle.byteorder.specs.Endian.{big_number}
 use Rattle.mf_base.specs.Spelling.{big_endian}
 use Rattle.mf_base.specs.Steps.{◌>>=◌, require, refuse, told_as}
-use Rattle.osm_model.specs.declared.numbers.TheConstants.{BLOB_HEADER_TYPE, BLOB_HEADER_DATASIZE, BLOB_RAW, BLOB_RAW_SIZE, BLOB_ZLIB_DATA, BLOB_ZSTD_DATA}
+use Rattle.osm_model.specs.declared.numbers.TheConstants.{BLOB_HEADER_TYPE, BLOB_HEADER_DATASIZE, BLOB_RAW}
+use Rattle.osm_model.specs.declared.numbers.TheConstants.{BLOB_RAW_SIZE, BLOB_ZLIB_DATA, BLOB_ZSTD_DATA}
 use Rattle.osm_model.specs.declared.limits.TheConstants.{HEADER_LIMIT, BLOB_LIMIT, LENGTH_SIZE, OFFSET_LIMIT}
 use Rattle.osm_model.specs.declared.tables.TheConstants.{BLOB_HEADER, BLOB}
 use Rattle.osm_model.specs.declared.faults.FrameFault.{FrameFault}
-use Rattle.osm_model.specs.declared.faults.FrameFault.TheVariants.{Truncated, RawSize, BlobWire, Compressed, NoBytes, TooLong, HeaderLength, HeaderWire, NoKind, NoSize, BlobSize}
+use Rattle.osm_model.specs.declared.faults.FrameFault.TheVariants.{Truncated, RawSize, BlobWire, Compressed, NoBytes}
+use Rattle.osm_model.specs.declared.faults.FrameFault.TheVariants.{TooLong, HeaderLength, HeaderWire, NoKind, NoSize}
+use Rattle.osm_model.specs.declared.faults.FrameFault.TheVariants.{BlobSize}
 use Rattle.osm_model.specs.Reading.{Reading, all_read, stops_at, then_reads}
 use Rattle.osm_model.specs.Wire.{Field, IsMessage}
 use Rattle.osm_model.specs.Tables.{FitsTable, message, once_of, number_of}
 
--- What a blob holds, by its type: the raw bytes of a HeaderBlock or of a PrimitiveBlock, or bytes that are not read, of which the type alone is kept.
+-- What a blob holds, by its type: the raw bytes of a HeaderBlock or of a PrimitiveBlock, or bytes that are not read, of
+-- which the type alone is kept.
 pub data Content : Type 0 where
   header : List ℕ → Content
   primitive : List ℕ → Content
@@ -58,7 +66,8 @@ HoldsContent (header raw) b = IsBlob raw b
 HoldsContent (primitive raw) b = IsBlob raw b
 HoldsContent (unread type) b = (type ≢ codes "OSMHeader") × (type ≢ codes "OSMData")
 
--- The bytes spell a blob: the length of the BlobHeader in four bytes, the highest first, then the BlobHeader, then the Blob.
+-- The bytes spell a blob: the length of the BlobHeader in four bytes, the highest first, then the BlobHeader, then the
+-- Blob.
 pub record SpellsFrame (content : Content) (b : List ℕ) : Type 0 where
   pub head : List ℕ
   pub body : List ℕ
@@ -71,7 +80,9 @@ pub record SpellsFrame (content : Content) (b : List ℕ) : Type 0 where
 -- The bytes are these blobs, one after another, the first at this offset, and each begins before 2^62.
 abbrev pub AreFrames : ℕ → List ℕ → List Frame → Type 0
 AreFrames at b [] = b ≡ []
-AreFrames at b (f ∷ fs) = (front : List ℕ) × (rest : List ℕ) × (f.at ≡ at) × (at < OFFSET_LIMIT) × SpellsFrame f.content front × AreFrames (at + length front) rest fs × (b ≡ front ++ rest)
+AreFrames at b (f ∷ fs) =
+    (front : List ℕ) × (rest : List ℕ) × (f.at ≡ at) × (at < OFFSET_LIMIT) × SpellsFrame f.content front
+    × AreFrames (at + length front) rest fs × (b ≡ front ++ rest)
 
 -- the first so many bytes, where there are as many
 abbrev pub whole_part : ℕ → List ℕ → Result (List ℕ) FrameFault

@@ -1,5 +1,7 @@
--- What a whole input spells: its first fault, its entities and its box. This project's profile of the OpenStreetMap wiki, "PBF Format".
-use Rattle.std.specs.Prelude.{◌≡◌, ◌≢◌, ℕ, List, [], ◌∷◌, ◌++◌, length, flat_map, filter_map, slice_get, unwrap_or, Option, Some, None, option_map, Ok, Err, ⊤}
+-- What a whole input spells: its first fault, its entities and its box. This project's profile of the OpenStreetMap
+-- wiki, "PBF Format".
+use Rattle.std.specs.Prelude.{◌≡◌, ◌≢◌, ℕ, List, [], ◌∷◌, ◌++◌, length, flat_map, filter_map, slice_get, unwrap_or}
+use Rattle.std.specs.Prelude.{Option, Some, None, option_map, Ok, Err, ⊤}
 use Rattle.std.specs.Option.{option_or}
 use Rattle.mf_base.specs.declared.place.Rect.{Rect}
 use Rattle.mf_base.specs.Steps.{fault_of, answer_of}
@@ -7,7 +9,8 @@ use Rattle.osm_model.specs.declared.faults.InputCode.{InputCode}
 use Rattle.osm_model.specs.declared.faults.InputFault.{InputFault}
 use Rattle.osm_model.specs.declared.faults.InputCode.TheVariants as input_codes
 use Rattle.osm_model.specs.Reading.{Reading, all_read, stops_at, then_reads}
-use Rattle.osm_model.specs.Frames.{Content, header, primitive, unread, Frame, FrameFaultAt, AreFrames, frame_front, frames}
+use Rattle.osm_model.specs.Frames.{Content, header, primitive, unread, Frame, FrameFaultAt, AreFrames, frame_front}
+use Rattle.osm_model.specs.Frames.{frames}
 use Rattle.osm_model.specs.Blocks.{header_box, block}
 use Rattle.osm_model.specs.Entities.{Entity}
 use Rattle.osm_model.specs.Objects.{block_objects, block_entities}
@@ -89,7 +92,8 @@ AreSound before (f ∷ fs) = (content_fault before f.content ≡ None) × AreSou
 
 -- the first step that bytes at this offset break, behind these entities
 abbrev pub first_step : List Entity → ℕ → List ℕ → Option InputCode
-first_step before at bytes = elim (frame_front at bytes) [ Ok found ↦ content_fault before found.0 | Err fault ↦ Some (input_codes.Frame fault) ]
+first_step before at bytes =
+    elim (frame_front at bytes) [ Ok found ↦ content_fault before found.0 | Err fault ↦ Some (input_codes.Frame fault) ]
 
 -- Nothing is left, or bytes at this offset that break a step behind these entities.
 abbrev pub InputEnds : List Entity → ℕ → List ℕ → Option InputFault → Type 0

@@ -1,6 +1,9 @@
--- The objects of a block: the OpenStreetMap wiki, "PBF Format", on PrimitiveGroup, Node, DenseNodes, Way and Relation. That a group has one kind
+-- The objects of a block: the OpenStreetMap wiki, "PBF Format", on PrimitiveGroup, Node, DenseNodes, Way and Relation.
+-- That a group has one kind
 -- alone, and the order in which faults are looked for, is this project's profile.
-use Rattle.std.specs.Prelude.{◌<◌, ℕ, zero, suc, Bool, true, ◌&&◌, ◌==◌, nat_le, if◌then◌else◌, List, [], ◌∷◌, length, map, zip, flat_map, filter_map, filter, slice_get, Option, Some, None, option_map, ok_or, Result, Ok, Err, ℤ, pos, ◌+ℤ◌, nat_abs}
+use Rattle.std.specs.Prelude.{◌<◌, ℕ, zero, suc, Bool, true, ◌&&◌, ◌==◌, nat_le, if◌then◌else◌, List, [], ◌∷◌, length}
+use Rattle.std.specs.Prelude.{map, zip, flat_map, filter_map, filter, slice_get, Option, Some, None, option_map, ok_or}
+use Rattle.std.specs.Prelude.{Result, Ok, Err, ℤ, pos, ◌+ℤ◌, nat_abs}
 use Rattle.std.specs.List.{list_all, AllByRecursion}
 use Rattle.mf_base.specs.Tags.{Tag, Tags}
 use Rattle.mf_base.specs.declared.kind.EntityKind.{EntityKind}
@@ -8,10 +11,16 @@ use Rattle.mf_base.specs.Steps.{◌>>=◌, require, told_as, each, answer_of}
 use Rattle.mf_base.specs.Spelling.{unzigzag_of}
 use Rattle.mf_base.specs.Ranges.{is_signed_64}
 use Rattle.mf_base.specs.declared.kind.EntityKind.TheVariants as kinds
-use Rattle.osm_model.specs.declared.numbers.TheConstants.{WAY_ID, RELATION_ID, RELATION_ROLES_SID, RELATION_MEMIDS, RELATION_TYPES, RELATION_KEYS, RELATION_VALS, GROUP_NODES, GROUP_DENSE, GROUP_WAYS, GROUP_RELATIONS, GROUP_CHANGESETS, NODE_ID, NODE_KEYS, NODE_VALS, NODE_LAT, NODE_LON, DENSE_ID, DENSE_LAT, DENSE_LON, DENSE_KEYS_VALS, WAY_KEYS, WAY_VALS, WAY_REFS}
+use Rattle.osm_model.specs.declared.numbers.TheConstants.{WAY_ID, RELATION_ID, RELATION_ROLES_SID, RELATION_MEMIDS}
+use Rattle.osm_model.specs.declared.numbers.TheConstants.{RELATION_TYPES, RELATION_KEYS, RELATION_VALS, GROUP_NODES}
+use Rattle.osm_model.specs.declared.numbers.TheConstants.{GROUP_DENSE, GROUP_WAYS, GROUP_RELATIONS, GROUP_CHANGESETS}
+use Rattle.osm_model.specs.declared.numbers.TheConstants.{NODE_ID, NODE_KEYS, NODE_VALS, NODE_LAT, NODE_LON, DENSE_ID}
+use Rattle.osm_model.specs.declared.numbers.TheConstants.{DENSE_LAT, DENSE_LON, DENSE_KEYS_VALS, WAY_KEYS, WAY_VALS}
+use Rattle.osm_model.specs.declared.numbers.TheConstants.{WAY_REFS}
 use Rattle.osm_model.specs.declared.tables.TheConstants.{PRIMITIVE_GROUP, NODE, DENSE_NODES, WAY, RELATION}
 use Rattle.osm_model.specs.declared.faults.EntityFault.{EntityFault}
-use Rattle.osm_model.specs.declared.faults.EntityFault.TheVariants.{StringIndex, KeyWithoutValue, Coordinate, Missing, Wire, Columns, Range, MemberKind, MixedGroup}
+use Rattle.osm_model.specs.declared.faults.EntityFault.TheVariants.{StringIndex, KeyWithoutValue, Coordinate, Missing}
+use Rattle.osm_model.specs.declared.faults.EntityFault.TheVariants.{Wire, Columns, Range, MemberKind, MixedGroup}
 use Rattle.osm_model.specs.Wire.{Field, int64}
 use Rattle.osm_model.specs.Tables.{message, counted_bytes, number_of, packed_of, packed_sint64_of}
 use Rattle.osm_model.specs.Blocks.{BlockHead, PrimitiveBlock, is_coordinate, place_of}
@@ -79,7 +88,8 @@ node_object in_block bytes = do
   id ← sint64_at NODE_ID fs
   lat ← sint64_at NODE_LAT fs
   lon ← sint64_at NODE_LON fs
-  Ok (record { kind = kinds.Node; id = id; entity = node_of in_block.head id lat lon (indexed_tags in_block.strings (packed_of NODE_KEYS fs) (packed_of NODE_VALS fs)) })
+  let tags = indexed_tags in_block.strings (packed_of NODE_KEYS fs) (packed_of NODE_VALS fs)
+  Ok (record { kind = kinds.Node; id = id; entity = node_of in_block.head id lat lon tags })
 
 -- ---- dense nodes
 
@@ -175,7 +185,8 @@ zip_three (x ∷ xs) (y ∷ ys) (z ∷ zs) = (x, y, z) ∷ zip_three xs ys zs
 unfoldable pub dense_from : PrimitiveBlock → ℤ × ℤ × ℤ → List ℤ → List ℤ → List ℤ → Option (List TagRun)
     → List (Result Object EntityFault)
 dense_from in_block (id, lat, lon) ids lats lons runs =
-    with_runs in_block (zip_three (running_sums_from id ids) (running_sums_from lat lats) (running_sums_from lon lons)) runs
+    with_runs in_block
+    (zip_three (running_sums_from id ids) (running_sums_from lat lats) (running_sums_from lon lons)) runs
 
 -- the nodes of three columns of numbers, which are of one length, and of keys_vals
 unfoldable pub dense_columns : PrimitiveBlock → List ℤ → List ℤ → List ℤ → List ℕ → List (Result Object EntityFault)
@@ -188,7 +199,9 @@ dense_columns in_block ids lats lons keys_vals =
 unfoldable pub dense_objects : PrimitiveBlock → List ℕ → List (Result Object EntityFault)
 dense_objects in_block bytes =
     elim (message DENSE_NODES bytes) [
-      | Ok fs ↦ dense_columns in_block (packed_sint64_of DENSE_ID fs) (packed_sint64_of DENSE_LAT fs) (packed_sint64_of DENSE_LON fs) (packed_of DENSE_KEYS_VALS fs)
+      | Ok fs ↦
+          dense_columns in_block (packed_sint64_of DENSE_ID fs) (packed_sint64_of DENSE_LAT fs)
+          (packed_sint64_of DENSE_LON fs) (packed_of DENSE_KEYS_VALS fs)
       | Err fault ↦ Err (Wire fault) ∷ []
     ]
 
@@ -210,7 +223,8 @@ unfoldable pub way_object : PrimitiveBlock → List ℕ → Result Object Entity
 way_object in_block bytes = do
   fs ← told_as Wire (message WAY bytes)
   id ← int64_at WAY_ID fs
-  Ok (record { kind = kinds.Way; id = id; entity = way_of id (running_sums (packed_sint64_of WAY_REFS fs)) (indexed_tags in_block.strings (packed_of WAY_KEYS fs) (packed_of WAY_VALS fs)) })
+  let tags = indexed_tags in_block.strings (packed_of WAY_KEYS fs) (packed_of WAY_VALS fs)
+  Ok (record { kind = kinds.Way; id = id; entity = way_of id (running_sums (packed_sint64_of WAY_REFS fs)) tags })
 
 -- ---- relations
 
@@ -247,7 +261,11 @@ unfoldable pub relation_object : PrimitiveBlock → List ℕ → Result Object E
 relation_object in_block bytes = do
   fs ← told_as Wire (message RELATION bytes)
   id ← int64_at RELATION_ID fs
-  Ok (record { kind = kinds.Relation; id = id; entity = relation_of id (members_of in_block.strings (packed_of RELATION_ROLES_SID fs) (packed_sint64_of RELATION_MEMIDS fs) (packed_of RELATION_TYPES fs)) (indexed_tags in_block.strings (packed_of RELATION_KEYS fs) (packed_of RELATION_VALS fs)) })
+  let roles = packed_of RELATION_ROLES_SID fs
+  let ids = packed_sint64_of RELATION_MEMIDS fs
+  let members = members_of in_block.strings roles ids (packed_of RELATION_TYPES fs)
+  let tags = indexed_tags in_block.strings (packed_of RELATION_KEYS fs) (packed_of RELATION_VALS fs)
+  Ok (record { kind = kinds.Relation; id = id; entity = relation_of id members tags })
 
 -- ---- groups
 

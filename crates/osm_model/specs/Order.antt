@@ -1,5 +1,7 @@
--- The order of the entities of an input: this project's profile of the OpenStreetMap wiki, "PBF Format", on sorted files.
-use Rattle.std.specs.Prelude.{◌≡◌, ◌<◌, ◌≤◌, ℕ, Bool, ◌==◌, nat_lt, if◌then◌else◌, List, [], ◌∷◌, ◌++◌, map, filter, Option, Some, None, unwrap_or, Result, Ok, Err, ℤ, pos, int_le}
+-- The order of the entities of an input: this project's profile of the OpenStreetMap wiki, "PBF Format", on sorted
+-- files.
+use Rattle.std.specs.Prelude.{◌≡◌, ◌<◌, ◌≤◌, ℕ, Bool, ◌==◌, nat_lt, if◌then◌else◌, List, [], ◌∷◌, ◌++◌, map, filter}
+use Rattle.std.specs.Prelude.{Option, Some, None, unwrap_or, Result, Ok, Err, ℤ, pos, int_le}
 use Rattle.std.specs.List.{list_any, last_or, All, AllPairs}
 use Rattle.mf_base.specs.Steps.{◌>>=◌, refuse}
 use Rattle.mf_base.specs.declared.kind.EntityKind.{EntityKind}
@@ -54,7 +56,8 @@ in_order before (Ok object ∷ others) =
 abbrev pub kind_and_id : Entity → EntityKind × ℕ
 kind_and_id e = (kind_of e, id_of e)
 
--- The first kind and id may stand before the second: the kind is no later one, and where both are of one kind the id is smaller.
+-- The first kind and id may stand before the second: the kind is no later one, and where both are of one kind the id is
+-- smaller.
 abbrev pub Precedes : EntityKind × ℕ → EntityKind × ℕ → Type 0
 Precedes a b = (rank a.0 ≤ rank b.0) × (a.0 ≡ b.0 → a.1 < b.1)
 

@@ -6,7 +6,8 @@ use Rattle.osm_model.specs.declared.faults.InputFault.{InputFault}
 use Rattle.osm_model.specs.Reading.{Reading}
 use Rattle.osm_model.specs.Frames.{Content, Frame, FrameFaultAt, AreFrames}
 use Rattle.osm_model.specs.Entities.{Entity}
-use Rattle.osm_model.specs.Input.{content_entities, content_box, entities_of, sound_frames, as_input_fault, input_fault, input_entities, input_box, AreSound}
+use Rattle.osm_model.specs.Input.{content_entities, content_box, entities_of, sound_frames, as_input_fault, input_fault}
+use Rattle.osm_model.specs.Input.{input_entities, input_box, AreSound}
 
 -- The first fault, the entities before it, and the first box before it.
 pub record Outcome : Type 0 where

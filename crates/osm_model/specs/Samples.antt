@@ -1,5 +1,6 @@
 -- Worked inputs, with what they spell: this project's rows.
-use Rattle.std.specs.Prelude.{ℕ, ◌+◌, ◌-◌, ◌*◌, nat_le, if◌then◌else◌, List, [], ◌∷◌, ◌++◌, length, map, flat_map, replicate, set, codes, ℤ, pos, negsuc, Option, Some}
+use Rattle.std.specs.Prelude.{ℕ, ◌+◌, ◌-◌, ◌*◌, nat_le, if◌then◌else◌, List, [], ◌∷◌, ◌++◌, length, map, flat_map}
+use Rattle.std.specs.Prelude.{replicate, set, codes, ℤ, pos, negsuc, Option, Some}
 use Rattle.mf_base.specs.Tags.{Tags}
 use Rattle.mf_base.specs.Texts.{Text}
 use Rattle.mf_base.specs.declared.place.Place.{Place}
@@ -35,7 +36,8 @@ len_field k bytes = (8 * k + 2) ∷ length bytes ∷ bytes
 
 -- a blob of this type, whose Blob message has fewer than 128 bytes
 abbrev pub blob_of : String → List ℕ → List ℕ
-blob_of kind body = (0 ∷ 0 ∷ 0 ∷ (length (codes kind) + 4) ∷ []) ++ len_field 1 (codes kind) ++ (0x18 ∷ length body ∷ []) ++ body
+blob_of kind body =
+    (0 ∷ 0 ∷ 0 ∷ (length (codes kind) + 4) ∷ []) ++ len_field 1 (codes kind) ++ (0x18 ∷ length body ∷ []) ++ body
 
 -- a blob of a HeaderBlock of these bytes
 abbrev pub header_blob : List ℕ → List ℕ
@@ -43,7 +45,9 @@ header_blob raw = blob_of "OSMHeader" (len_field 1 raw)
 
 -- a header with a bbox of these sides, left, right, top and bottom, each a sint64 of nanodegrees in hexadecimal digits
 abbrev pub boxed : String → String → String → String → List ℕ
-boxed left right top bottom = header_blob (len_field 1 (hex "08" ++ hex left ++ hex "10" ++ hex right ++ hex "18" ++ hex top ++ hex "20" ++ hex bottom))
+boxed left right top bottom =
+    header_blob (len_field 1 (hex "08" ++ hex left ++ hex "10" ++ hex right ++ hex "18" ++ hex top ++ hex "20"
+    ++ hex bottom))
 
 -- a blob of a PrimitiveBlock of these bytes
 abbrev pub raw_blob : List ℕ → List ℕ
@@ -99,7 +103,8 @@ one_degree = record { min_lat = negsuc 999999; min_lon = negsuc 999999; max_lat 
 
 -- 90 degrees north and south, 180 east and west
 abbrev pub whole_earth : Rect
-whole_earth = record { min_lat = negsuc 89999999; min_lon = negsuc 179999999; max_lat = pos 90000000; max_lon = pos 180000000 }
+whole_earth =
+    record { min_lat = negsuc 89999999; min_lon = negsuc 179999999; max_lat = pos 90000000; max_lon = pos 180000000 }
 
 -- a node of this id, place and tags
 abbrev pub node_at : ℕ → Place → Tags → Entity
@@ -121,7 +126,8 @@ relation_at id members tags = relation (record { id = id; members = members; tag
 
 -- a HeaderBlock with a box of one degree each way and the two required features
 abbrev pub header_raw : List ℕ
-header_raw = len_field 1 (hex "08 FF A7 D6 B9 07 10 80 A8 D6 B9 07 18 80 A8 D6 B9 07 20 FF A7 D6 B9 07") ++ len_field 4 (codes "OsmSchema-V0.6") ++ len_field 4 (codes "DenseNodes")
+header_raw = len_field 1 (hex "08 FF A7 D6 B9 07 10 80 A8 D6 B9 07 18 80 A8 D6 B9 07 20 FF A7 D6 B9 07")
+    ++ len_field 4 (codes "OsmSchema-V0.6") ++ len_field 4 (codes "DenseNodes")
 
 -- its blob of 73 bytes
 abbrev pub header_alone : List ℕ
@@ -174,7 +180,8 @@ twice_five = len_field 2 (hex "0A 02 0A 00 42 02 00 00 4A 02 00 00")
 -- one bench of the name Spring
 abbrev pub bench_with_name : List ℕ
 bench_with_name =
-    header_alone ++ block_blob ([] ∷ codes "amenity" ∷ codes "bench" ∷ codes "name" ∷ codes "Spring" ∷ []) (len_field 1 (hex "08 02 12 02 01 03 1A 02 02 04 40 00 48 00"))
+    header_alone ++ block_blob ([] ∷ codes "amenity" ∷ codes "bench" ∷ codes "name" ∷ codes "Spring" ∷ [])
+    (len_field 1 (hex "08 02 12 02 01 03 1A 02 02 04 40 00 48 00"))
 
 -- ---- nodes, ways and relations
 
@@ -185,7 +192,9 @@ short_texts = [] ∷ codes "k" ∷ hex "C3 A9" ∷ codes "vv" ∷ []
 -- three dense nodes: one with a tag, one without, one with two; granularity 1000, offsets -5 and 77 nanodegrees
 abbrev pub dense_three : List ℕ
 dense_three =
-    raw_blob (string_field short_texts ++ len_field 2 (len_field 2 (hex "0A 03 04 06 02 42 03 14 09 0E 4A 03 02 02 02 52 09 01 02 00 00 03 01 02 00 00"))
+    raw_blob (string_field short_texts
+    ++ len_field 2
+    (len_field 2 (hex "0A 03 04 06 02 42 03 14 09 0E 4A 03 02 02 02 52 09 01 02 00 00 03 01 02 00 00"))
     ++ hex "88 01 E8 07 98 01 FB" ++ replicate 8 0xFF ++ hex "01 A0 01 4D")
 
 -- what it spells
@@ -199,7 +208,8 @@ dense_three_entities =
 -- two ways in a block and a relation in the next
 abbrev pub ways_and_relation : List ℕ
 ways_and_relation =
-    block_blob short_texts (len_field 3 (hex "08 04 12 02 01 03 1A 02 02 01 42 03 04 06 09") ++ len_field 3 (hex "08 09 42 00"))
+    block_blob short_texts
+    (len_field 3 (hex "08 04 12 02 01 03 1A 02 02 01 42 03 04 06 09") ++ len_field 3 (hex "08 09 42 00"))
     ++ block_blob short_texts (len_field 4 (hex "08 05 12 01 01 1A 01 03 42 03 01 02 00 4A 03 08 11 0A 52 03 00 01 02"))
 
 -- what it spells
@@ -207,15 +217,18 @@ abbrev pub ways_and_relation_entities : List Entity
 ways_and_relation_entities =
     way_at 4 (pos 2 ∷ pos 5 ∷ pos 0 ∷ []) ((codes "k", hex "C3 A9") ∷ (codes "vv", codes "k") ∷ [])
     ∷ way_at 9 [] []
-    ∷ relation_at 5 (member_of EntityKind.Node (pos 4) (codes "k") ∷ member_of EntityKind.Way (negsuc 4) (hex "C3 A9") ∷ member_of EntityKind.Relation (pos 0) [] ∷ []) ((codes "k", codes "vv") ∷ [])
+    ∷ relation_at 5 (member_of EntityKind.Node (pos 4) (codes "k") ∷ member_of EntityKind.Way (negsuc 4) (hex "C3 A9")
+    ∷ member_of EntityKind.Relation (pos 0) [] ∷ []) ((codes "k", codes "vv") ∷ [])
     ∷ []
 
 -- a path of four refs, of which the third is no node
 abbrev pub missing_node : List ℕ
 missing_node =
     header_alone
-    ++ block_blob ([] ∷ []) (len_field 1 (hex "08 02 40 00 48 00") ++ len_field 1 (hex "08 04 40 00 48 64") ++ len_field 1 (hex "08 08 40 64 48 64"))
-    ++ block_blob ([] ∷ codes "highway" ∷ codes "path" ∷ []) (len_field 3 (hex "08 01 12 01 01 1A 01 02 42 04 02 02 02 02"))
+    ++ block_blob ([] ∷ []) (len_field 1 (hex "08 02 40 00 48 00") ++ len_field 1 (hex "08 04 40 00 48 64")
+    ++ len_field 1 (hex "08 08 40 64 48 64"))
+    ++ block_blob ([] ∷ codes "highway" ∷ codes "path" ∷ [])
+    (len_field 3 (hex "08 01 12 01 01 1A 01 02 42 04 02 02 02 02"))
 
 -- what it spells
 abbrev pub missing_node_entities : List Entity
@@ -231,10 +244,14 @@ abbrev pub ring_of_three_ways : List ℕ
 ring_of_three_ways =
     header_alone
     ++ block_blob ([] ∷ []) (
-    len_field 1 (hex "08 02 40 00 48 00") ++ len_field 1 (hex "08 04 40 00 48 90 03") ++ len_field 1 (hex "08 06 40 90 03 48 C8 01")
-    ++ len_field 1 (hex "08 08 40 3C 48 A0 01") ++ len_field 1 (hex "08 0A 40 3C 48 F0 01") ++ len_field 1 (hex "08 0C 40 78 48 C8 01"))
-    ++ block_blob ([] ∷ []) (len_field 3 (hex "08 01 42 02 02 02") ++ len_field 3 (hex "08 02 42 02 06 01") ++ len_field 3 (hex "08 03 42 02 06 03") ++ len_field 3 (hex "08 04 42 04 08 02 02 03"))
-    ++ block_blob ([] ∷ codes "type" ∷ codes "multipolygon" ∷ codes "landuse" ∷ codes "forest" ∷ codes "outer" ∷ codes "inner" ∷ [])
+    len_field 1 (hex "08 02 40 00 48 00") ++ len_field 1 (hex "08 04 40 00 48 90 03")
+    ++ len_field 1 (hex "08 06 40 90 03 48 C8 01")
+    ++ len_field 1 (hex "08 08 40 3C 48 A0 01") ++ len_field 1 (hex "08 0A 40 3C 48 F0 01")
+    ++ len_field 1 (hex "08 0C 40 78 48 C8 01"))
+    ++ block_blob ([] ∷ []) (len_field 3 (hex "08 01 42 02 02 02") ++ len_field 3 (hex "08 02 42 02 06 01")
+    ++ len_field 3 (hex "08 03 42 02 06 03") ++ len_field 3 (hex "08 04 42 04 08 02 02 03"))
+    ++ block_blob ([] ∷ codes "type" ∷ codes "multipolygon" ∷ codes "landuse" ∷ codes "forest" ∷ codes "outer"
+    ∷ codes "inner" ∷ [])
     (len_field 4 (hex "08 01 12 02 01 03 1A 02 02 04 42 04 05 05 05 06 4A 04 02 02 02 02 52 04 01 01 01 01"))
 
 -- a way of these nodes without tags
@@ -267,9 +284,12 @@ abbrev pub water_tile : List ℕ
 water_tile =
     header_alone
     ++ block_blob ([] ∷ []) (
-    len_field 1 (hex "08 02 40 FF C1 D7 2F 48 80 C2 D7 2F") ++ len_field 1 (hex "08 04 40 FF C1 D7 2F 48 80 D8 83 8B 02")
-    ++ len_field 1 (hex "08 06 40 80 A0 CB 98 01 48 80 D8 83 8B 02") ++ len_field 1 (hex "08 08 40 80 A0 CB 98 01 48 80 C2 D7 2F"))
-    ++ block_blob ([] ∷ codes "natural" ∷ codes "water" ∷ []) (len_field 3 (hex "08 01 12 01 01 1A 01 02 42 05 02 02 02 02 05"))
+    len_field 1 (hex "08 02 40 FF C1 D7 2F 48 80 C2 D7 2F")
+    ++ len_field 1 (hex "08 04 40 FF C1 D7 2F 48 80 D8 83 8B 02")
+    ++ len_field 1 (hex "08 06 40 80 A0 CB 98 01 48 80 D8 83 8B 02")
+    ++ len_field 1 (hex "08 08 40 80 A0 CB 98 01 48 80 C2 D7 2F"))
+    ++ block_blob ([] ∷ codes "natural" ∷ codes "water" ∷ [])
+    (len_field 3 (hex "08 01 12 01 01 1A 01 02 42 05 02 02 02 02 05"))
 
 -- what it spells
 abbrev pub water_tile_entities : List Entity
@@ -285,5 +305,6 @@ water_tile_entities =
 abbrev pub fault_before_limit : List ℕ
 fault_before_limit =
     header_alone ++ hex "00 00 00 0C" ++ len_field 1 (codes "OSMData") ++ hex "18 8A 07 0A 87 07 0A EC 06"
-    ++ len_field 1 [] ++ len_field 1 (codes "amenity") ++ len_field 1 (codes "bench") ++ len_field 1 (codes "name") ++ hex "0A D1 06" ++ replicate 849 0x6E
+    ++ len_field 1 [] ++ len_field 1 (codes "amenity") ++ len_field 1 (codes "bench") ++ len_field 1 (codes "name")
+    ++ hex "0A D1 06" ++ replicate 849 0x6E
     ++ len_field 2 (len_field 2 (hex "0A 02 0A 00 42 02 00 00 4A 02 00 00 52 06 01 02 03 04 00 00"))

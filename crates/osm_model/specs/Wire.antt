@@ -1,6 +1,9 @@
--- Varints, fields and messages: Protocol Buffers, "Encoding", on base 128 varints, message structure and packed fields. That
+-- Varints, fields and messages: Protocol Buffers, "Encoding", on base 128 varints, message structure and packed fields.
+-- That
 -- groups (wire types 3 and 4) are refused, and the order in which faults are looked for, is this project's profile.
-use Rattle.std.specs.Prelude.{◌≡◌, ℕ, zero, suc, ◌+◌, ◌-◌, ◌*◌, ◌/◌, ◌%◌, ◌<◌, ◌≤◌, ◌&&◌, ◌==◌, nat_lt, nat_le, if◌then◌else◌, List, [], ◌∷◌, ◌++◌, length, take, drop, Option, Some, None, ◌≢◌, Result, Ok, Err, ℤ}
+use Rattle.std.specs.Prelude.{◌≡◌, ℕ, zero, suc, ◌+◌, ◌-◌, ◌*◌, ◌/◌, ◌%◌, ◌<◌, ◌≤◌, ◌&&◌, ◌==◌, nat_lt, nat_le}
+use Rattle.std.specs.Prelude.{if◌then◌else◌, List, [], ◌∷◌, ◌++◌, length, take, drop, Option, Some, None, ◌≢◌, Result}
+use Rattle.std.specs.Prelude.{Ok, Err, ℤ}
 use Rattle.std.specs.Int.{w64, cast_signed}
 use Rattle.mf_base.specs.Spelling.{IsVarint}
 use Rattle.mf_base.specs.Steps.{◌>>=◌, require, told_as}
@@ -44,7 +47,8 @@ SpellsValue (i32 bytes) b = (length bytes ≡ 4) × (b ≡ bytes)
 pub record SpellsField (f : Field) (b : List ℕ) : Type 0 where
   pub least : 1 ≤ f.number
   pub most : f.number < FIELD_NUMBER_LIMIT
-  pub spelled : (key : List ℕ) × (rest : List ℕ) × IsVarint (field_key f) key × SpellsValue f.value rest × (b ≡ key ++ rest)
+  pub spelled : (key : List ℕ) × (rest : List ℕ) × IsVarint (field_key f) key × SpellsValue f.value rest
+      × (b ≡ key ++ rest)
 
 -- A message is the spellings of its fields, one after another.
 abbrev pub IsMessage : List ℕ → List Field → Type 0

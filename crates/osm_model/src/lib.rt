@@ -1,7 +1,9 @@
 //! What an input spells: messages, blobs, blocks and entities, and the first fault.
 //!
-//! The definitions stand in `specs/`, in this order: `Reading`, `Wire`, `Tables`, `Frames`, `Blocks`, `Entities`, `Objects`, `Order`, `Input`.
-//! They speak of the `limits`, of the `numbers` of fields, of their `rules` and `tables`, and of the `faults` for which an input is refused, as the code
+//! The definitions stand in `specs/`, in this order: `Reading`, `Wire`, `Tables`, `Frames`, `Blocks`, `Entities`,
+//! `Objects`, `Order`, `Input`.
+//! They speak of the `limits`, of the `numbers` of fields, of their `rules` and `tables`, and of the `faults` for which
+//! an input is refused, as the code
 //! of the readers does.
 //! `rows` has them on small inputs, and `laws` what follows from them.
 #![tactic(auto)]
