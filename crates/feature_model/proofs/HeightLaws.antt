@@ -1,5 +1,6 @@
 -- A readable elevation has five digits.
-use Rattle.std.proofs.Common.{◌≡◌, ◌⊎◌, ℕ, zero, suc, ◌-◌, ◌^◌, ◌<◌, ◌≤◌, [], ◌∷◌, length, drop, Bool, true, false, ◌&&◌, Option, Some, None, refl, inl, inr, arith}
+use Rattle.std.proofs.Common.{◌≡◌, ◌⊎◌, ℕ, zero, suc, ◌-◌, ◌^◌, ◌<◌, ◌≤◌, [], ◌∷◌, length, drop, Bool, true, false}
+use Rattle.std.proofs.Common.{◌&&◌, Option, Some, None, refl, inl, inr, arith}
 use Rattle.std.specs.Prelude.{nat_le, option_map, if◌then◌else◌, IfSome}
 use Rattle.std.specs.List.{list_all}
 use Rattle.std.specs.Char.{is_ascii_digit}
@@ -7,10 +8,12 @@ use Rattle.std.proofs.Math.Nat.{pow-le-pow_right, pow-succ', mul-le-mul_right}
 use Rattle.std.proofs.lemmas.Bool.{cases_Bool, le-leb, leb-true, and_parts}
 use Rattle.std.proofs.lemmas.Option.{same_Some}
 use Rattle.mf_base.specs.Texts.{Text, cut}
-use Rattle.mf_base.specs.Numbers.{dot, minus, plus, starts, without, decimal_value, digits_up_to, under_sign, before_dot, metres, height}
+use Rattle.mf_base.specs.Numbers.{dot, minus, plus, starts, without, decimal_value, digits_up_to, under_sign}
+use Rattle.mf_base.specs.Numbers.{before_dot, metres, height}
 use Rattle.feature_model.specs.Proper.{IsHeight}
 
-decimal_value-below : (digits : Text) → list_all is_ascii_digit digits ≡ true → decimal_value digits < 10 ^ length digits
+decimal_value-below : (digits : Text) → list_all is_ascii_digit digits ≡ true
+    → decimal_value digits < 10 ^ length digits
 decimal_value-below [] h = omega arith
 decimal_value-below (d ∷ digits) h =
     let parts = and_parts (is_ascii_digit d) (list_all is_ascii_digit digits) h in
@@ -24,15 +27,18 @@ decimal_value-below (d ∷ digits) h =
 
 digits_up_to-below : (text : Text) (n : ℕ) → digits_up_to 5 text ≡ Some n → n ≤ 99999
 unfolding digits_up_to
-digits_up_to-below text n e = by_test (cases_Bool ((nat_le 1 (length text) && nat_le (length text) 5) && list_all is_ascii_digit text))
+digits_up_to-below text n e =
+    by_test (cases_Bool ((nat_le 1 (length text) && nat_le (length text) 5) && list_all is_ascii_digit text))
   where
-    by_test : (((nat_le 1 (length text) && nat_le (length text) 5) && list_all is_ascii_digit text) ≡ true) ⊎ (((nat_le 1 (length text) && nat_le (length text) 5) && list_all is_ascii_digit text) ≡ false) → n ≤ 99999
+    by_test : (((nat_le 1 (length text) && nat_le (length text) 5) && list_all is_ascii_digit text) ≡ true)
+        ⊎ (((nat_le 1 (length text) && nat_le (length text) 5) && list_all is_ascii_digit text) ≡ false) → n ≤ 99999
     by_test (inl good) =
         let parts = and_parts (nat_le 1 (length text) && nat_le (length text) 5) (list_all is_ascii_digit text) good in
         let bounds = and_parts (nat_le 1 (length text)) (nat_le (length text) 5) parts.0 in
         let same : decimal_value text ≡ n = same_Some (decimal_value text) n (rw good at e) in
         let below = decimal_value-below text parts.1 in
-        let power : 10 ^ length text ≤ 100000 = pow-le-pow_right {n = 10} (omega arith) (leb-true (length text) 5 bounds.1) in
+        let power : 10 ^ length text ≤ 100000 =
+        pow-le-pow_right {n = 10} (omega arith) (leb-true (length text) 5 bounds.1) in
         omega (arith, same, below, power)
     by_test (inr bad) = absurd (cc (rw bad at e))
 
@@ -53,7 +59,8 @@ metres-height : (negative : Bool) (text : Text) → IfSome (option_map (under_si
 unfolding metres
 metres-height negative text = by_value (before_dot text (cut dot text)) refl
   where
-    by_value : (o : Option ℕ) → before_dot text (cut dot text) ≡ o → IfSome (option_map (under_sign negative) o) IsHeight
+    by_value : (o : Option ℕ) → before_dot text (cut dot text) ≡ o
+        → IfSome (option_map (under_sign negative) o) IsHeight
     by_value None e = tt
     by_value (Some n) e = signed-height negative n (before_dot-below text (cut dot text) n e)
 

@@ -1,5 +1,7 @@
--- Sums over lists, for weights of tiles and for counts; two lists have the same items, each as often, where every function has the same total over both.
-use Rattle.std.proofs.Common.{◌≡◌, ℕ, zero, suc, ◌+◌, ◌-◌, ◌<◌, ◌≤◌, List, [], ◌∷◌, ◌++◌, map, length, refl, sym, ap, ◌∙◌, arith, true, false, inl, inr}
+-- Sums over lists, for weights of tiles and for counts; two lists have the same items, each as often, where every
+-- function has the same total over both.
+use Rattle.std.proofs.Common.{◌≡◌, ℕ, zero, suc, ◌+◌, ◌-◌, ◌<◌, ◌≤◌, List, [], ◌∷◌, ◌++◌, map, length, refl, sym, ap}
+use Rattle.std.proofs.Common.{◌∙◌, arith, true, false, inl, inr}
 use Rattle.std.specs.Prelude.{Bool, ◌&&◌, cond, filter, flat_map, count_by, max, min, leb, eqb, sum_by}
 use Rattle.std.specs.List.{range_with_len, fold}
 use Rattle.std.proofs.lemmas.Bool.{le-leb, lt-leb, eq-eqb, ne_eqb, cases_lt, cases_eq}
@@ -17,9 +19,11 @@ pub total-map : {X Y : Type 0} (f : Y → ℕ) (g : X → Y) (xs : List X) → t
 total-map f g [] = refl
 total-map f g (x ∷ xs) = ap (λ (n : ℕ). f (g x) + n) (total-map f g xs)
 
-pub total-flat_map : {X Y : Type 0} (f : Y → ℕ) (g : X → List Y) (xs : List X) → total f (flat_map g xs) ≡ total (λ x. total f (g x)) xs
+pub total-flat_map : {X Y : Type 0} (f : Y → ℕ) (g : X → List Y) (xs : List X)
+    → total f (flat_map g xs) ≡ total (λ x. total f (g x)) xs
 total-flat_map f g [] = refl
-total-flat_map f g (x ∷ xs) = total-append f (g x) (flat_map g xs) ∙ ap (λ (n : ℕ). total f (g x) + n) (total-flat_map f g xs)
+total-flat_map f g (x ∷ xs) =
+    total-append f (g x) (flat_map g xs) ∙ ap (λ (n : ℕ). total f (g x) + n) (total-flat_map f g xs)
 
 pub total-same : {X : Type 0} (f g : X → ℕ) → ((x : X) → f x ≡ g x) → (xs : List X) → total f xs ≡ total g xs
 total-same f g e [] = refl
@@ -34,15 +38,19 @@ total-add f g [] = refl
 total-add f g (x ∷ xs) = omega (arith, total-add f g xs)
 
 -- the sum over two lists does not hang on which is gone over first
-pub total-swap : {X Y : Type 0} (h : X → Y → ℕ) (xs : List X) (ys : List Y) → total (λ x. total (h x) ys) xs ≡ total (λ y. total (λ x. h x y) xs) ys
+pub total-swap : {X Y : Type 0} (h : X → Y → ℕ) (xs : List X) (ys : List Y)
+    → total (λ x. total (h x) ys) xs ≡ total (λ y. total (λ x. h x y) xs) ys
 total-swap h [] ys = sym (total-zero ys)
-total-swap h (x ∷ xs) ys = ap (λ (n : ℕ). total (h x) ys + n) (total-swap h xs ys) ∙ sym (total-add (h x) (λ y. total (λ x. h x y) xs) ys)
+total-swap h (x ∷ xs) ys =
+    ap (λ (n : ℕ). total (h x) ys + n) (total-swap h xs ys) ∙ sym (total-add (h x) (λ y. total (λ x. h x y) xs) ys)
 
-pub total-filter : {X : Type 0} (f : X → ℕ) (p : X → Bool) (xs : List X) → total f (filter p xs) ≡ total (λ x. cond (p x) (f x) 0) xs
+pub total-filter : {X : Type 0} (f : X → ℕ) (p : X → Bool) (xs : List X)
+    → total f (filter p xs) ≡ total (λ x. cond (p x) (f x) 0) xs
 total-filter f p [] = refl
 total-filter f p (x ∷ xs) = by_test (p x) (total-filter f p xs)
   where
-    by_test : (b : Bool) → total f (filter p xs) ≡ total (λ x. cond (p x) (f x) 0) xs → total f (cond b (x ∷ filter p xs) (filter p xs)) ≡ cond b (f x) 0 + total (λ x. cond (p x) (f x) 0) xs
+    by_test : (b : Bool) → total f (filter p xs) ≡ total (λ x. cond (p x) (f x) 0) xs
+        → total f (cond b (x ∷ filter p xs) (filter p xs)) ≡ cond b (f x) 0 + total (λ x. cond (p x) (f x) 0) xs
     by_test true more = omega (arith, more)
     by_test false more = omega (arith, more)
 
@@ -67,12 +75,20 @@ same_range : (h : ℕ → ℕ) (a b n m : ℕ) → a ≡ b → n ≡ m → total
 same_range h a b n m p q = λ i. total h (range_with_len (p i) (q i))
 
 -- those from c to d among the n numbers from a on
-pub total-cut : (h : ℕ → ℕ) (a n c d : ℕ) → total (λ x. cond (leb c x && leb x d) (h x) 0) (range_with_len a n) ≡ total h (range_with_len (max a c) (min (a + n) (suc d) - max a c))
+pub total-cut : (h : ℕ → ℕ) (a n c d : ℕ)
+    → total (λ x. cond (leb c x && leb x d) (h x) 0) (range_with_len a n)
+    ≡ total h (range_with_len (max a c) (min (a + n) (suc d) - max a c))
 total-cut h a zero c d = same_range h (max a c) (max a c) 0 (min (a + 0) (suc d) - max a c) refl (omega arith)
 total-cut h a (suc n) c d =
     let more = total-cut h (a + 1) n c d in
     elim (cases_lt a c) [
-      | inl lt ↦ rw lt-leb (omega (arith, more, same_range h (max (a + 1) c) (max a c) (min (a + 1 + n) (suc d) - max (a + 1) c) (min (a + suc n) (suc d) - max a c) (omega arith) (omega arith)))
+      | inl lt ↦ rw lt-leb
+          (omega (
+            arith,
+            more,
+            same_range h (max (a + 1) c) (max a c) (min (a + 1 + n) (suc d) - max (a + 1) c)
+                (min (a + suc n) (suc d) - max a c) (omega arith) (omega arith),
+          ))
       | inr ge ↦ elim (cases_lt d a) [
         | inl past ↦ rw (le-leb c a ge, lt-leb a d past) (omega (
           arith,
@@ -83,8 +99,10 @@ total-cut h a (suc n) c d =
         | inr le ↦ rw (le-leb c a ge, le-leb a d le) (omega (
           arith,
           more,
-          same_range h (max (a + 1) c) (a + 1) (min (a + 1 + n) (suc d) - max (a + 1) c) (min (a + 1 + n) (suc d) - (a + 1)) (omega arith) (omega arith),
-          same_range h (max a c) a (min (a + suc n) (suc d) - max a c) (suc (min (a + 1 + n) (suc d) - (a + 1))) (omega arith) (omega arith),
+          same_range h (max (a + 1) c) (a + 1) (min (a + 1 + n) (suc d) - max (a + 1) c)
+              (min (a + 1 + n) (suc d) - (a + 1)) (omega arith) (omega arith),
+          same_range h (max a c) a (min (a + suc n) (suc d) - max a c) (suc (min (a + 1 + n) (suc d) - (a + 1)))
+              (omega arith) (omega arith),
         ))
       ]
     ]

@@ -1,5 +1,6 @@
 -- The blocks that the rings of a relation make: this project's profile.
-use Rattle.std.specs.Prelude.{◌==◌, position, Option, Some, None, ℕ, Bool, true, false, not, List, [], ◌∷◌, map, filter, flat_map, Result, Ok, Err, if◌then◌else◌}
+use Rattle.std.specs.Prelude.{◌==◌, position, Option, Some, None, ℕ, Bool, true, false, not, List, [], ◌∷◌, map, filter}
+use Rattle.std.specs.Prelude.{flat_map, Result, Ok, Err, if◌then◌else◌}
 use Rattle.std.specs.List.{enumerate_from}
 use Rattle.mf_base.specs.declared.kind.Role.{Role}
 use Rattle.feature_model.specs.declared.fault.RingFault.{RingFault}
@@ -20,10 +21,12 @@ abbrev pub begins_inside : List Point → List Point → Bool
 begins_inside outer [] = false
 begins_inside outer (p ∷ ring) = inside (places outer ∷ []) p.place
 
--- One block for each outer ring, in order. An inner ring follows in the block of the first outer ring that has its first point inside, and one without such a ring is left out.
+-- One block for each outer ring, in order. An inner ring follows in the block of the first outer ring that has its
+-- first point inside, and one without such a ring is left out.
 unfoldable pub blocks_of : List (List Point) → List (List Point) → List JoinedBlock
 blocks_of [] inner = []
-blocks_of (o ∷ outer) inner = (o ∷ filter (begins_inside o) inner) ∷ blocks_of outer (filter (λ ring. not (begins_inside o ring)) inner)
+blocks_of (o ∷ outer) inner =
+    (o ∷ filter (begins_inside o) inner) ∷ blocks_of outer (filter (λ ring. not (begins_inside o ring)) inner)
 
 -- the same told by homes: the place of the first outer ring that has a ring's first point inside
 abbrev pub home : List (List Point) → List Point → Option ℕ
@@ -46,7 +49,9 @@ has_role Role.Inner part = not (is_outer part.role)
 
 -- the parts of a role, each with its place among all parts
 abbrev pub pieces_of : Role → List Part → List Piece
-pieces_of role all = map (λ (p : ℕ × Part). record { number = p.0; points = p.1.points }) (filter (λ (p : ℕ × Part). has_role role p.1) (enumerate_from 0 all))
+pieces_of role all =
+    map (λ (p : ℕ × Part). record { number = p.0; points = p.1.points })
+    (filter (λ (p : ℕ × Part). has_role role p.1) (enumerate_from 0 all))
 
 -- The blocks of outer and inner rings, where none of them is open; the outer parts are joined first
 abbrev pub blocks_joined : Joined → Joined → Result (List JoinedBlock) RingFault
@@ -64,7 +69,8 @@ relation_blocks all = elim (pieces_of Role.Outer all) [
 -- the rings of a block as parts: the first has the role outer, and the others have the role inner
 abbrev pub block_parts : JoinedBlock → List Part
 block_parts [] = []
-block_parts (outer ∷ inner) = record { role = Role.Outer; points = outer } ∷ map (λ ring. record { role = Role.Inner; points = ring }) inner
+block_parts (outer ∷ inner) =
+    record { role = Role.Outer; points = outer } ∷ map (λ ring. record { role = Role.Inner; points = ring }) inner
 
 -- The parts that stand in the place of a relation's parts once its rings are joined: the rings of its blocks, in order.
 abbrev pub joined_parts : List JoinedBlock → List Part
@@ -78,4 +84,5 @@ inner_before (part ∷ more) = if is_outer part.role then [] else part.points �
 -- The blocks that parts make which stand so: a part of role outer begins a block, and the inner ones after it follow.
 unfoldable pub blocks_in : List Part → List JoinedBlock
 blocks_in [] = []
-blocks_in (part ∷ more) = if is_outer part.role then (part.points ∷ inner_before more) ∷ blocks_in more else blocks_in more
+blocks_in (part ∷ more) =
+    if is_outer part.role then (part.points ∷ inner_before more) ∷ blocks_in more else blocks_in more

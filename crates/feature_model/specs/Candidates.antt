@@ -12,7 +12,8 @@ pub record Candidate : Type 0 where
 
 -- the candidate that an object of the input is, where it is one
 abbrev pub candidate_of : Mapping → List Entity → Entity → Option Candidate
-candidate_of mapping entities e = option_map (λ d. record { description = d; geometry = geometry_of entities e }) (description mapping e)
+candidate_of mapping entities e =
+    option_map (λ d. record { description = d; geometry = geometry_of entities e }) (description mapping e)
 
 -- nodes, then ways, then relations, each in their order; an accepted input has this order
 abbrev pub by_kind : List Entity → List Entity

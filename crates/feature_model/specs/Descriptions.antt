@@ -1,5 +1,6 @@
 -- What the tags of an object tell of it, before its points are known: this project's profile.
-use Rattle.std.specs.Prelude.{ℕ, ℤ, Bool, true, false, List, [], ◌∷◌, ◌++◌, length, flat_map, sum_by, codes, bytes_eq, Option, Some, None, option_map, option_and_then, unwrap_or, if◌then◌else◌}
+use Rattle.std.specs.Prelude.{ℕ, ℤ, Bool, true, false, List, [], ◌∷◌, ◌++◌, length, flat_map, sum_by, codes, bytes_eq}
+use Rattle.std.specs.Prelude.{Option, Some, None, option_map, option_and_then, unwrap_or, if◌then◌else◌}
 use Rattle.std.specs.List.{enumerate_from}
 use Rattle.mf_base.specs.declared.kind.EntityKind.{EntityKind}
 use Rattle.mf_base.specs.Texts.{Text}
@@ -67,7 +68,8 @@ described e chosen = record {
 
 -- The description of an object that is a candidate: a node, a way or a multipolygon with a matching entry of its list.
 unfoldable pub description : Mapping → Entity → Option Description
-description mapping e = if may_be_shown e then option_map (described e) (choice (entries_for mapping (kind_of e)) (tags_of e)) else None
+description mapping e =
+    if may_be_shown e then option_map (described e) (choice (entries_for mapping (kind_of e)) (tags_of e)) else None
 
 -- The texts of a description.
 

@@ -1,5 +1,6 @@
 -- Which entries a mapping may have, and the mapping of one word `KEY=VALUE@ZOOM`: this project's profile.
-use Rattle.std.specs.Prelude.{◌≤◌, ℕ, Bool, not, ◌&&◌, ◌||◌, nat_le, List, [], ◌∷◌, ◌++◌, length, codes, bytes_eq, Option, option_map, option_and_then, Result, Ok, IsTrue, IfSome, ok_or, true, false}
+use Rattle.std.specs.Prelude.{◌≤◌, ℕ, Bool, not, ◌&&◌, ◌||◌, nat_le, List, [], ◌∷◌, ◌++◌, length, codes, bytes_eq}
+use Rattle.std.specs.Prelude.{Option, option_map, option_and_then, Result, Ok, IsTrue, IfSome, ok_or, true, false}
 use Rattle.std.specs.List.{list_any, AllByRecursion, IsDistinct}
 use Rattle.std.specs.Str.{is_utf8}
 use Rattle.mf_base.specs.Steps.{◌>>=◌, require}
@@ -19,13 +20,17 @@ abbrev pub may_have_marks : which.List → Entry → Bool
 may_have_marks which.List.Poi e = not (e.water || e.label)
 may_have_marks which.List.Way e = true
 
--- The entry rule: key and value have 1 to 255 bytes, the key has no `=`, the zoom level is in 0..21, and an entry of `poi` has no mark.
+-- The entry rule: key and value have 1 to 255 bytes, the key has no `=`, the zoom level is in 0..21, and an entry of
+-- `poi` has no mark.
 unfoldable pub keeps_entry_rule : which.List → Entry → Bool
-keeps_entry_rule list e = is_short e.key && not (has_byte equals e.key) && is_short e.value && nat_le e.zoom 21 && may_have_marks list e
+keeps_entry_rule list e =
+    is_short e.key && not (has_byte equals e.key) && is_short e.value && nat_le e.zoom 21 && may_have_marks list e
 
--- The kind rule: a value that begins with `%` is one of the four kinds, and it is not `%i` where the key contains `:colour`.
+-- The kind rule: a value that begins with `%` is one of the four kinds, and it is not `%i` where the key contains
+-- `:colour`.
 unfoldable pub keeps_kind_rule : Entry → Bool
-keeps_kind_rule e = (not (begins (codes "%") e.value) || is_among (codes "%b" ∷ codes "%h" ∷ codes "%i" ∷ codes "%s" ∷ []) e.value)
+keeps_kind_rule e =
+    (not (begins (codes "%") e.value) || is_among (codes "%b" ∷ codes "%h" ∷ codes "%i" ∷ codes "%s" ∷ []) e.value)
     && not (bytes_eq e.value (codes "%i") && has_text (codes ":colour") e.key)
 
 -- the same key and value
@@ -36,7 +41,8 @@ is_same_tag e f = bytes_eq e.key f.key && bytes_eq e.value f.value
 abbrev pub is_there : List Entry → Entry → Bool
 is_there before e = list_any (λ earlier. is_same_tag earlier e) before
 
--- The entry behind those before it in its list, or its first fault: Entry, then Kind, then Twice. What could not be read as an entry is None.
+-- The entry behind those before it in its list, or its first fault: Entry, then Kind, then Twice. What could not be
+-- read as an entry is None.
 unfoldable pub entry_behind : which.List → List Entry → Option Entry → Result Entry MappingFault
 entry_behind list before told = do
   let index = length before
@@ -49,13 +55,15 @@ entry_behind list before told = do
 -- the entries of a list behind those before them, or the first fault in their order
 unfoldable pub entries_behind : which.List → List Entry → List (Option Entry) → Result (List Entry) MappingFault
 entries_behind list before [] = Ok before
-entries_behind list before (told ∷ more) = entry_behind list before told >>= (λ e. entries_behind list (before ++ e ∷ []) more)
+entries_behind list before (told ∷ more) =
+    entry_behind list before told >>= (λ e. entries_behind list (before ++ e ∷ []) more)
 
 -- a list has at most this many entries
 abbrev pub entries_limit : ℕ
 entries_limit = 4096
 
--- The mapping that is told by these entries, or the first fault: the lengths of both lists, and then entry by entry, in both cases `poi` first.
+-- The mapping that is told by these entries, or the first fault: the lengths of both lists, and then entry by entry, in
+-- both cases `poi` first.
 unfoldable pub mapping_told : List (Option Entry) → List (Option Entry) → Result Mapping MappingFault
 mapping_told poi way = do
   _ ← require (nat_le (length poi) entries_limit) (MappingFault.TooMany which.List.Poi)
@@ -99,11 +107,15 @@ at_sign = 64
 
 -- an entry without marks of a key, a value and the digits of a zoom level
 abbrev pub spelled_entry : Text → Text → Text → Option Entry
-spelled_entry key value zoom = option_map (λ level. record { key = key; value = value; zoom = level; water = false; label = false }) (digits_up_to 20 zoom)
+spelled_entry key value zoom =
+    option_map (λ level. record { key = key; value = value; zoom = level; water = false; label = false })
+    (digits_up_to 20 zoom)
 
--- what `KEY=VALUE@ZOOM` tells: the key ends before the first `=`, and the zoom level begins after the last `@` behind it
+-- what `KEY=VALUE@ZOOM` tells: the key ends before the first `=`, and the zoom level begins after the last `@` behind
+-- it
 unfoldable pub told_poi : Text → Option Entry
-told_poi word = option_and_then (λ (p : Text × Text). option_and_then (λ (q : Text × Text). spelled_entry p.0 q.0 q.1) (cut_last at_sign p.1)) (cut equals word)
+told_poi word = option_and_then (λ (p : Text × Text). option_and_then (λ (q : Text × Text). spelled_entry p.0 q.0 q.1)
+    (cut_last at_sign p.1)) (cut equals word)
 
 -- the mapping of one `poi` entry
 abbrev pub one_poi : Text → Result Mapping MappingFault

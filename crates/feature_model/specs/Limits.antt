@@ -12,7 +12,8 @@ candidate_over c = LimitFault.Feature c.description.kind c.description.id (weigh
 
 -- The first candidate that weighs more than the limit, even where it gives no feature.
 unfoldable pub candidate_fault : ℕ → Mapping → List Entity → Option LimitFault
-candidate_fault limit mapping entities = option_map candidate_over (find (λ c. nat_lt limit (weight c)) (candidates mapping entities))
+candidate_fault limit mapping entities =
+    option_map candidate_over (find (λ c. nat_lt limit (weight c)) (candidates mapping entities))
 
 -- the greatest weight of all candidates, or 0
 unfoldable pub largest_candidate : Mapping → List Entity → ℕ

@@ -1,5 +1,8 @@
--- How many bytes a feature and a tile take: at most 16 for each row that is weighed. For the encoder of a tile, whose output has room for it.
-use Rattle.std.proofs.Common.{◌≡◌, ℕ, zero, suc, ◌+◌, ◌-◌, ◌*◌, ◌/◌, ◌^◌, ◌<◌, ◌≤◌, List, [], ◌∷◌, ◌++◌, map, length, refl, sym, ap, ◌∙◌, subst, arith, length-append, true, false, Option, Some, None, inl, inr}
+-- How many bytes a feature and a tile take: at most 16 for each row that is weighed. For the encoder of a tile, whose
+-- output has room for it.
+use Rattle.std.proofs.Common.{◌≡◌, ℕ, zero, suc, ◌+◌, ◌-◌, ◌*◌, ◌/◌, ◌^◌, ◌<◌, ◌≤◌, List, [], ◌∷◌, ◌++◌, map, length}
+use Rattle.std.proofs.Common.{refl, sym, ap, ◌∙◌, subst, arith, length-append, true, false, Option, Some, None, inl}
+use Rattle.std.proofs.Common.{inr}
 use Rattle.std.specs.Prelude.{ℤ, pos, negsuc, nat_abs, Bool, flat_map, IfSome, IsTrue, cond, sum_by, is_some, leb}
 use Rattle.std.specs.List.{AllByRecursion, list_all}
 use Rattle.std.specs.Int.{w8, w16, w32, cast_unsigned}
@@ -18,7 +21,8 @@ use Rattle.feature_model.specs.Proper.{is_ring, is_block, is_shape, ring_count, 
 use Rattle.feature_model.proofs.Totals.{total, total-append, total-flat_map, total-same, sum-total}
 use Rattle.feature_model.proofs.TextSizes.{texts-by_parts}
 use Rattle.map_model.specs.Rectangles.{blocks_of_shape, places_of, first_place, origin}
-use Rattle.map_model.specs.Layout.{PoiFields, WayFields, optional, sized, value_bytes, tag_bytes, step, step_bytes, poi_fields_bytes, block_bytes, way_body_bytes, way_fields_bytes, first_of_blocks}
+use Rattle.map_model.specs.Layout.{PoiFields, WayFields, optional, sized, value_bytes, tag_bytes, step, step_bytes}
+use Rattle.map_model.specs.Layout.{poi_fields_bytes, block_bytes, way_body_bytes, way_fields_bytes, first_of_blocks}
 use Rattle.map_model.specs.TileBytes.{poi_fields, poi_bytes, way_fields, way_bytes}
 use Rattle.map_model.specs.TileReading.{IsPlaceOf32Bits}
 use Rattle.map_model.specs.Room.{rows_limit, IsShort, IsKeptShort, IsWritable}
@@ -36,7 +40,8 @@ length-value k h = by_value k.value h.1
     by_value (KeptValue.int n) short = rw (length-big_endian 4 (cast_unsigned w32 n)) (omega arith)
     by_value (KeptValue.text t) short = let size = length-text t (omega (arith, short)) in omega (arith, size)
 
-length-ids : (tags : List Kept) → AllByRecursion IsKeptShort tags → length (flat_map (λ (k : Kept). vbe_unsigned k.tag) tags) ≤ 2 * length tags
+length-ids : (tags : List Kept) → AllByRecursion IsKeptShort tags
+    → length (flat_map (λ (k : Kept). vbe_unsigned k.tag) tags) ≤ 2 * length tags
 length-ids [] all = omega arith
 length-ids (k ∷ tags) all =
     let id = all.0.0 in
@@ -45,7 +50,9 @@ length-ids (k ∷ tags) all =
     let whole = length-append (vbe_unsigned k.tag) (flat_map (λ (k : Kept). vbe_unsigned k.tag) tags) in
     omega (arith, here, rest, whole)
 
-length-values : (tags : List Kept) → AllByRecursion IsKeptShort tags → length (flat_map (λ (k : Kept). value_bytes k.value) tags) ≤ 4 * length tags + total (λ (k : Kept). text_size (kept_text k.value)) tags
+length-values : (tags : List Kept) → AllByRecursion IsKeptShort tags
+    → length (flat_map (λ (k : Kept). value_bytes k.value) tags) ≤ 4 * length tags
+    + total (λ (k : Kept). text_size (kept_text k.value)) tags
 length-values [] all = omega arith
 length-values (k ∷ tags) all =
     let here = length-value k all.0 in
@@ -54,13 +61,15 @@ length-values (k ∷ tags) all =
     omega (arith, here, rest, whole)
 
 -- layer and tags take at most 91 bytes beside the texts
-pub length-tags : (layer : ℤ) (tags : List Kept) → length tags ≤ 15 → AllByRecursion IsKeptShort tags → length (tag_bytes layer tags) ≤ 91 + kept_size tags
+pub length-tags : (layer : ℤ) (tags : List Kept) → length tags ≤ 15 → AllByRecursion IsKeptShort tags
+    → length (tag_bytes layer tags) ≤ 91 + kept_size tags
 unfolding tag_bytes kept_size
 length-tags layer tags few all =
     let ids = length-ids tags all in
     let values = length-values tags all in
     let sum = sum-total (λ (k : Kept). text_size (kept_text k.value)) tags in
-    let whole = length-append (flat_map (λ (k : Kept). vbe_unsigned k.tag) tags) (flat_map (λ (k : Kept). value_bytes k.value) tags) in
+    let whole = length-append (flat_map (λ (k : Kept). vbe_unsigned k.tag) tags)
+    (flat_map (λ (k : Kept). value_bytes k.value) tags) in
     omega (arith, few, ids, values, sum, whole)
 
 -- ---- texts
@@ -75,7 +84,8 @@ length-height (Some z) low = length-signed z (omega (arith, low))
 
 -- what 16 bytes for each row are
 pub weight-room : (f : Feature) → IsWritable f
-    → 160 + 16 * ring_count f.shape + 16 * place_count f.shape + (text_size f.name + text_size f.house + text_size f.reference + kept_size f.tags) ≤ 16 * f.weight
+    → 160 + 16 * ring_count f.shape + 16 * place_count f.shape
+    + (text_size f.name + text_size f.house + text_size f.reference + kept_size f.tags) ≤ 16 * f.weight
 weight-room f h = let weight = h.weight in let texts = texts-by_parts (description_of f) in omega (arith, weight, texts)
 
 -- ---- POIs
@@ -94,9 +104,21 @@ length-poi corner f at h =
     let name = length-optional f.name h.name in
     let house = length-optional f.house h.house in
     let height = length-height f.height h.height in
-    simp (length-append) (omega (arith, place, tags, name, house, height, length-append (vbe_signed (step corner (first_place (places_of f))).lat) (vbe_signed (step corner (first_place (places_of f))).lon)))
+    simp (length-append)
+    (omega (
+      arith,
+      place,
+      tags,
+      name,
+      house,
+      height,
+      length-append (vbe_signed (step corner (first_place (places_of f))).lat)
+          (vbe_signed (step corner (first_place (places_of f))).lon),
+    ))
 
-pub poi-room : (corner : Place) (f : Feature) → IsPlaceOf32Bits corner → IsWritable f → length (poi_bytes corner f) ≤ 16 * f.weight
-poi-room corner f at h = let bytes = length-poi corner f at h in let room = weight-room f h in omega (arith, bytes, room)
+pub poi-room : (corner : Place) (f : Feature) → IsPlaceOf32Bits corner → IsWritable f
+    → length (poi_bytes corner f) ≤ 16 * f.weight
+poi-room corner f at h = let bytes = length-poi corner f at h in let room =
+    weight-room f h in omega (arith, bytes, room)
 
 pub ruleset feature_laws = (length-tags, poi-room)

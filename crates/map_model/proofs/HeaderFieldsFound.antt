@@ -1,5 +1,6 @@
 -- What is read as the flags, the optional fields, the version or the projection of a header is spelled so.
-use Rattle.std.proofs.Common.{◌≡◌, ℕ, ◌^◌, ◌<◌, List, [], ◌∷◌, ◌++◌, length, take, drop, refl, sym, ◌∙◌, subst, arith, false, Ok, Option, Some, None}
+use Rattle.std.proofs.Common.{◌≡◌, ℕ, ◌^◌, ◌<◌, List, [], ◌∷◌, ◌++◌, length, take, drop, refl, sym, ◌∙◌, subst, arith}
+use Rattle.std.proofs.Common.{false, Ok, Option, Some, None}
 use Rattle.std.specs.Prelude.{IfSome, is_some}
 use Rattle.std.proofs.lemmas.Bool.{eqb-true, not-true}
 use Rattle.std.proofs.lemmas.List.{length-drop, take_all}
@@ -17,7 +18,8 @@ use Rattle.map_model.specs.TileReading.{has_flag, IsText, IsPlaceOf32Bits}
 use Rattle.map_model.specs.HeaderReading.{header_text_at, signed_32, flags_at, optional_at, version_at, projection_at}
 use Rattle.map_model.specs.declared.fault.HeaderKind.{HeaderKind}
 use Rattle.mf_base.proofs.ByteLaws.{drop-bytes}
-use Rattle.map_model.proofs.ReaderFound.{Takes, IsFound, Finds, AreSoManyBytes, then, fixed-found, fixed_number-found, where_set-found}
+use Rattle.map_model.proofs.ReaderFound.{Takes, IsFound, Finds, AreSoManyBytes, then, fixed-found, fixed_number-found}
+use Rattle.map_model.proofs.ReaderFound.{where_set-found}
 use Rattle.map_model.proofs.RecordsFound.{byte-found, signed_32-within}
 use Rattle.map_model.proofs.HeaderPartsFound.{string_at-found, signed_field, number_field}
 
@@ -29,7 +31,8 @@ flags_at-found bytes r small e =
     let flags = bind_ok _ _ r e in
     let plain = bind_ok _ _ r flags.2 in
     let found = byte-found HeaderKind.Short bytes flags.0 small flags.1 in
-    subst (IsFound (λ f. f ∷ []) (λ f. (f < 256) × (has_flag f 0x80 ≡ false)) bytes) (ok_is flags.0 r plain.2) (found.0, (found.1, not-true _ (require_ok _ _ _ plain.1)))
+    subst (IsFound (λ f. f ∷ []) (λ f. (f < 256) × (has_flag f 0x80 ≡ false)) bytes) (ok_is flags.0 r plain.2)
+    (found.0, (found.1, not-true _ (require_ok _ _ _ plain.1)))
 
 abbrev pub start_bytes : Place → List ℕ
 start_bytes p = be_signed p.lat ++ be_signed p.lon
@@ -52,7 +55,11 @@ start_of (Some s) h =
       record {
         spelt = sym ((λ i. a i ++ b i) ∙ two_fours s h.0);
         same = refl;
-        within = (signed_32-within (big_number 4 s) (big_from-lt 0 4 s h.1), signed_32-within (big_number 4 (drop 4 s)) (big_from-lt 0 4 (drop 4 s) (drop-bytes 4 s h.1)));
+        within = (
+          signed_32-within (big_number 4 s) (big_from-lt 0 4 s h.1),
+          signed_32-within (big_number 4 (drop 4 s))
+              (big_from-lt 0 4 (drop 4 s) (drop-bytes 4 s h.1)),
+        );
       },
     )
 
@@ -66,7 +73,11 @@ zoom_of : (field : Option (List ℕ)) → IfSome field (AreSoManyBytes 1) → (z
 zoom_of None h = (None, record { spelt = refl; same = refl; within = tt })
 zoom_of (Some s) h = (
   Some (big_number 1 s),
-  record { spelt = sym (number_field 1 s h.1 (omega (arith, h.0)) ∙ take_all 1 s (omega (arith, h.0))); same = refl; within = big_from-lt 0 1 s h.1 },
+  record {
+    spelt = sym (number_field 1 s h.1 (omega (arith, h.0)) ∙ take_all 1 s (omega (arith, h.0)));
+    same = refl;
+    within = big_from-lt 0 1 s h.1;
+  },
 )
 
 -- the optional fields as they stand one after the other
@@ -96,7 +107,8 @@ pub record AreOptions (flags : ℕ) (bytes rest : List ℕ) : Type 0 where
   pub created_by_set : is_some created_by ≡ has_flag flags 0x04
   pub created_by_fits : IfSome created_by IsText
 
-pub optional_at-found : (flags : ℕ) (bytes : List ℕ) (r : Unit {0} × List ℕ) → IsBytes bytes → optional_at flags bytes ≡ Ok r → AreOptions flags bytes r.1
+pub optional_at-found : (flags : ℕ) (bytes : List ℕ) (r : Unit {0} × List ℕ) → IsBytes bytes
+    → optional_at flags bytes ≡ Ok r → AreOptions flags bytes r.1
 unfolding optional_at
 optional_at-found flags bytes r small e =
     let start = bind_ok _ _ r e in
@@ -104,11 +116,16 @@ optional_at-found flags bytes r small e =
     let language = bind_ok _ _ r zoom.2 in
     let comment = bind_ok _ _ r language.2 in
     let created_by = bind_ok _ _ r comment.2 in
-    let a = where_set-found (fixed HeaderKind.Short 8) (λ f. f) (AreSoManyBytes 8) (fixed-found HeaderKind.Short 8) (has_flag flags 0x40) bytes start.0 small start.1 in
-    let b = where_set-found (fixed HeaderKind.Short 1) (λ f. f) (AreSoManyBytes 1) (fixed-found HeaderKind.Short 1) (has_flag flags 0x20) start.0.1 zoom.0 a.0.behind zoom.1 in
-    let c = where_set-found header_text_at string IsText string_at-found (has_flag flags 0x10) zoom.0.1 language.0 b.0.behind language.1 in
-    let d = where_set-found header_text_at string IsText string_at-found (has_flag flags 0x08) language.0.1 comment.0 c.0.behind comment.1 in
-    let f = where_set-found header_text_at string IsText string_at-found (has_flag flags 0x04) comment.0.1 created_by.0 d.0.behind created_by.1 in
+    let a = where_set-found (fixed HeaderKind.Short 8) (λ f. f) (AreSoManyBytes 8) (fixed-found HeaderKind.Short 8)
+    (has_flag flags 0x40) bytes start.0 small start.1 in
+    let b = where_set-found (fixed HeaderKind.Short 1) (λ f. f) (AreSoManyBytes 1) (fixed-found HeaderKind.Short 1)
+    (has_flag flags 0x20) start.0.1 zoom.0 a.0.behind zoom.1 in
+    let c = where_set-found header_text_at string IsText string_at-found (has_flag flags 0x10) zoom.0.1 language.0
+    b.0.behind language.1 in
+    let d = where_set-found header_text_at string IsText string_at-found (has_flag flags 0x08) language.0.1 comment.0
+    c.0.behind comment.1 in
+    let f = where_set-found header_text_at string IsText string_at-found (has_flag flags 0x04) comment.0.1 created_by.0
+    d.0.behind created_by.1 in
     let place = start_of start.0.0 a.1.0 in
     let number = zoom_of zoom.0.0 b.1.0 in
     subst (λ (q : Unit {0} × List ℕ). AreOptions flags bytes q.1) (ok_is (tt, created_by.0.1) r created_by.2)
@@ -141,7 +158,8 @@ optional_at-found flags bytes r small e =
 
 -- ---- the other fields
 
-pub version_at-found : (total : ℕ) → Finds (version_at total) (λ u. big_endian 4 5 ++ big_endian 8 total) (λ u. total < 2 ^ 64)
+pub version_at-found : (total : ℕ)
+    → Finds (version_at total) (λ u. big_endian 4 5 ++ big_endian 8 total) (λ u. total < 2 ^ 64)
 unfolding version_at
 version_at-found total bytes r small e =
     let v = bind_ok _ _ r e in
@@ -152,8 +170,12 @@ version_at-found total bytes r small e =
     let b = fixed_number-found HeaderKind.Short 8 v.0.1 told.0 a.0.behind told.1 in
     let is_five = eqb-true v.0.0 5 (require_ok _ _ _ five.1) in
     let is_total = eqb-true told.0.0 total (require_ok _ _ _ right.1) in
-    subst (IsFound (λ (u : Unit {0}). big_endian 4 5 ++ big_endian 8 total) (λ u. total < 2 ^ 64) bytes) (ok_is (tt, told.0.1) r right.2)
-    (then (subst (λ n. Takes bytes (big_endian 4 n) v.0.1) is_five a.0) (subst (λ n. Takes v.0.1 (big_endian 8 n) told.0.1) is_total b.0), subst (λ n. n < 2 ^ 64) is_total b.1)
+    subst (IsFound (λ (u : Unit {0}). big_endian 4 5 ++ big_endian 8 total) (λ u. total < 2 ^ 64) bytes)
+    (ok_is (tt, told.0.1) r right.2) (
+      then (subst (λ n. Takes bytes (big_endian 4 n) v.0.1) is_five a.0)
+          (subst (λ n. Takes v.0.1 (big_endian 8 n) told.0.1) is_total b.0),
+      subst (λ n. n < 2 ^ 64) is_total b.1,
+    )
 
 -- a tile size and the projection's word
 pub record IsProjection (bytes rest : List ℕ) : Type 0 where
@@ -161,7 +183,8 @@ pub record IsProjection (bytes rest : List ℕ) : Type 0 where
   pub fits : tile_size < 2 ^ 16
   pub text : Takes bytes (big_endian 2 tile_size ++ string mercator_word) rest
 
-pub projection_at-found : (bytes : List ℕ) (r : Unit {0} × List ℕ) → IsBytes bytes → projection_at bytes ≡ Ok r → IsProjection bytes r.1
+pub projection_at-found : (bytes : List ℕ) (r : Unit {0} × List ℕ) → IsBytes bytes → projection_at bytes ≡ Ok r
+    → IsProjection bytes r.1
 unfolding projection_at
 projection_at-found bytes r small e =
     let size = bind_ok _ _ r e in
@@ -175,5 +198,6 @@ projection_at-found bytes r small e =
     record {
       tile_size = big_number 2 size.0.0;
       fits = big_from-lt 0 2 size.0.0 a.1.1;
-      text = then (subst (λ text. Takes bytes text size.0.1) (sym spelt) a.0) (subst (λ text. Takes size.0.1 (string text) word.0.1) is b.0);
+      text = then (subst (λ text. Takes bytes text size.0.1) (sym spelt) a.0)
+          (subst (λ text. Takes size.0.1 (string text) word.0.1) is b.0);
     }

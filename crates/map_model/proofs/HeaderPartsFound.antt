@@ -1,5 +1,6 @@
 -- What is read as a string, a list of tags, a box or the intervals of a header is spelled so.
-use Rattle.std.proofs.Common.{◌≡◌, ℕ, ◌+◌, ◌<◌, ◌≤◌, List, ◌++◌, length, take, drop, sym, ap, ◌∙◌, subst, arith, Result, Ok, Err}
+use Rattle.std.proofs.Common.{◌≡◌, ℕ, ◌+◌, ◌<◌, ◌≤◌, List, ◌++◌, length, take, drop, sym, ap, ◌∙◌, subst, arith, Result}
+use Rattle.std.proofs.Common.{Ok, Err}
 use Rattle.std.specs.Prelude.{flat_map, IsTrue}
 use Rattle.std.specs.List.{AllByRecursion}
 use Rattle.std.specs.Int.{w32}
@@ -20,7 +21,9 @@ use Rattle.mf_base.proofs.BigBytes.{big_bytes-big_number}
 use Rattle.map_model.specs.Header.{SubFile, be_signed, box_bytes, tag_list_bytes, interval_bytes}
 use Rattle.map_model.specs.Reader.{with_rest}
 use Rattle.map_model.specs.TileReading.{IsText}
-use Rattle.map_model.specs.HeaderReading.{length_of, header_text_at, tag_name_at, tag_list_at, signed_32, rect_of_bytes, box_at, interval_of_bytes, is_interval, interval_at, intervals_at, IsTagName, AreTagNames, FitsInterval}
+use Rattle.map_model.specs.HeaderReading.{length_of, header_text_at, tag_name_at, tag_list_at, signed_32, rect_of_bytes}
+use Rattle.map_model.specs.HeaderReading.{box_at, interval_of_bytes, is_interval, interval_at, intervals_at, IsTagName}
+use Rattle.map_model.specs.HeaderReading.{AreTagNames, FitsInterval}
 use Rattle.map_model.specs.declared.fault.HeaderKind.{HeaderKind}
 use Rattle.mf_base.proofs.ByteLaws.{drop-bytes}
 use Rattle.map_model.proofs.ReaderFound.{Takes, IsFound, Finds, then, fixed-found, fixed_number-found, times-found}
@@ -28,7 +31,8 @@ use Rattle.map_model.proofs.PlacesFound.{unsigned-found, text_found}
 
 -- ---- strings
 
-length_of-ok : (bytes : List ℕ) (f : Result (ℕ × List ℕ) VbeFault) (n : ℕ × List ℕ) → length_of bytes f ≡ Ok n → f ≡ Ok n
+length_of-ok : (bytes : List ℕ) (f : Result (ℕ × List ℕ) VbeFault) (n : ℕ × List ℕ) → length_of bytes f ≡ Ok n
+    → f ≡ Ok n
 length_of-ok bytes (Ok m) n e = cc
 length_of-ok bytes (Err f) n e = absurd (err_is_no_ok _ n e)
 
@@ -40,7 +44,8 @@ string_at-found bytes r small e =
     let good = bind_ok _ _ r whole.2 in
     let found = unsigned-found bytes n.0 small (length_of-ok bytes (with_rest bytes (unsigned_front bytes)) n.0 n.1) in
     subst (IsFound string IsText bytes) (ok_is (take n.0.0 n.0.1, drop n.0.0 n.0.1) r good.2)
-    (text_found bytes n.0 found.0 found.1 (leb-true n.0.0 (length n.0.1) (require_ok _ _ _ whole.1)) (require_ok _ _ _ good.1))
+    (text_found bytes n.0 found.0 found.1 (leb-true n.0.0 (length n.0.1) (require_ok _ _ _ whole.1))
+    (require_ok _ _ _ good.1))
 
 tag_name_at-found : Finds tag_name_at string IsTagName
 unfolding tag_name_at
@@ -64,7 +69,8 @@ tag_list_at-found bytes r small e =
 -- a signed number of four bytes is spelled by them
 pub signed_field : (bytes : List ℕ) → IsBytes bytes → 4 ≤ length bytes → be_signed (signed_32 bytes) ≡ take 4 bytes
 unfolding big_endian
-signed_field bytes small some = ap (big_bytes 4) (of_z-to_z w32 (big_number 4 bytes) (big_from-lt 0 4 bytes small)) ∙ big_bytes-big_number 4 bytes small some
+signed_field bytes small some = ap (big_bytes 4) (of_z-to_z w32 (big_number 4 bytes) (big_from-lt 0 4 bytes small))
+    ∙ big_bytes-big_number 4 bytes small some
 
 four_fours : (s : List ℕ) → length s ≡ 16 → take 4 s ++ take 4 (drop 4 s) ++ take 4 (drop 8 s) ++ take 4 (drop 12 s) ≡ s
 four_fours s len =
@@ -100,11 +106,13 @@ box_at-found bytes r small e =
 
 -- ---- intervals
 
-pub number_field : (width : ℕ) (bytes : List ℕ) → IsBytes bytes → width ≤ length bytes → big_endian width (big_number width bytes) ≡ take width bytes
+pub number_field : (width : ℕ) (bytes : List ℕ) → IsBytes bytes → width ≤ length bytes
+    → big_endian width (big_number width bytes) ≡ take width bytes
 unfolding big_endian
 number_field width bytes small some = big_bytes-big_number width bytes small some
 
-five_fields : (s : List ℕ) → length s ≡ 19 → take 1 s ++ take 1 (drop 1 s) ++ take 1 (drop 2 s) ++ take 8 (drop 3 s) ++ take 8 (drop 11 s) ≡ s
+five_fields : (s : List ℕ) → length s ≡ 19
+    → take 1 s ++ take 1 (drop 1 s) ++ take 1 (drop 2 s) ++ take 8 (drop 3 s) ++ take 8 (drop 11 s) ≡ s
 five_fields s len =
     ap (λ t. t ++ take 1 (drop 2 s) ++ take 8 (drop 3 s) ++ take 8 (drop 11 s)) (sym (take-add 1 1 s))
     ∙ ap (λ t. t ++ take 8 (drop 3 s) ++ take 8 (drop 11 s)) (sym (take-add 2 1 s))
@@ -140,11 +148,15 @@ interval_at-found total end bytes r small e =
     let good = bind_ok _ _ r field.2 in
     let found = fixed-found HeaderKind.Short 19 bytes field.0 small field.1 in
     let spelt = interval_spelled field.0.0 found.1.1 found.1.0 in
-    subst (IsFound interval_bytes (IsIntervalOf total end) bytes) (ok_is (interval_of_bytes field.0.0, field.0.1) r good.2)
-    (subst (λ text. Takes bytes text field.0.1) (sym spelt) found.0, (interval_fits field.0.0 found.1.1, require_ok _ _ _ good.1))
+    subst (IsFound interval_bytes (IsIntervalOf total end) bytes)
+    (ok_is (interval_of_bytes field.0.0, field.0.1) r good.2) (
+      subst (λ text. Takes bytes text field.0.1) (sym spelt) found.0,
+      (interval_fits field.0.0 found.1.1, require_ok _ _ _ good.1),
+    )
 
 -- intervals behind their number
-pub record AreIntervals (total end : ℕ) (bytes : List ℕ) (ats : List (Interval × SubFile)) (rest : List ℕ) : Type 0 where
+pub record AreIntervals (total end : ℕ) (bytes : List ℕ) (ats : List (Interval × SubFile)) (rest : List ℕ) : Type
+    0 where
   pub middle : List ℕ
   pub count : Takes bytes (big_endian 1 (length ats)) middle
   pub text : Takes middle (flat_map interval_bytes ats) rest
@@ -152,13 +164,15 @@ pub record AreIntervals (total end : ℕ) (bytes : List ℕ) (ats : List (Interv
   pub few : length ats < 256
   pub each : AllByRecursion (IsIntervalOf total end) ats
 
-pub intervals_at-found : (total end : ℕ) (bytes : List ℕ) (r : List (Interval × SubFile) × List ℕ) → IsBytes bytes → intervals_at total end bytes ≡ Ok r → AreIntervals total end bytes r.0 r.1
+pub intervals_at-found : (total end : ℕ) (bytes : List ℕ) (r : List (Interval × SubFile) × List ℕ) → IsBytes bytes
+    → intervals_at total end bytes ≡ Ok r → AreIntervals total end bytes r.0 r.1
 unfolding intervals_at
 intervals_at-found total end bytes r small e =
     let n = bind_ok _ _ r e in
     let some = bind_ok _ _ r n.2 in
     let count = fixed_number-found HeaderKind.Short 1 bytes n.0 small n.1 in
-    let all = times-found (interval_at total end) interval_bytes (IsIntervalOf total end) (interval_at-found total end) n.0.0 n.0.1 r count.0.behind some.2 in
+    let all = times-found (interval_at total end) interval_bytes (IsIntervalOf total end) (interval_at-found total end)
+    n.0.0 n.0.1 r count.0.behind some.2 in
     let many = all.1.0 in
     record {
       middle = n.0.1;

@@ -42,7 +42,8 @@ corner_third = λ i. record { lat = pos (north_lat-equator i); lon = pos 0 }
 
 fine_last : fine_row (negsuc 85051010) ≡ 262143
 unfolding latitudes
-fine_last = fine_row-is (negsuc 85051010) 262143 (record { small = omega arith; reaches = refl; next = λ lt. absurd (omega (arith, lt)) })
+fine_last = fine_row-is (negsuc 85051010) 262143
+    (record { small = omega arith; reaches = refl; next = λ lt. absurd (omega (arith, lt)) })
 
 pub row_last : row 18 (negsuc 85051010) ≡ 262143
 unfolding row
@@ -66,13 +67,19 @@ row_north = rw fine_north refl
 
 fine_south : fine_row (negsuc 88999999) ≡ 262143
 unfolding latitudes
-fine_south = fine_row-is (negsuc 88999999) 262143 (record { small = omega arith; reaches = refl; next = λ lt. absurd (omega (arith, lt)) })
+fine_south = fine_row-is (negsuc 88999999) 262143
+    (record { small = omega arith; reaches = refl; next = λ lt. absurd (omega (arith, lt)) })
 
 row_south : row 2 (negsuc 88999999) ≡ 3
 unfolding row
 row_south = rw fine_south refl
 
-pub south_bits : rect_bits (record { min_lat = negsuc 88999999; min_lon = negsuc 179999999; max_lat = negsuc 88999999; max_lon = pos 0 }) 0 0 0 ≡ 14
+pub south_bits : rect_bits (record {
+  min_lat = negsuc 88999999;
+  min_lon = negsuc 179999999;
+  max_lat = negsuc 88999999;
+  max_lon = pos 0;
+}) 0 0 0 ≡ 14
 unfolding compute
 south_bits = rw row_south refl
 

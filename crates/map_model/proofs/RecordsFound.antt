@@ -1,5 +1,6 @@
 -- What is read as tags or as a POI is spelled so.
-use Rattle.std.proofs.Common.{◌≡◌, ℕ, zero, suc, ◌-◌, ◌*◌, ◌/◌, ◌%◌, ◌^◌, ◌<◌, ◌≤◌, List, [], ◌∷◌, ◌++◌, length, refl, sym, ap, ◌∙◌, subst, arith, inl, inr, true}
+use Rattle.std.proofs.Common.{◌≡◌, ℕ, zero, suc, ◌-◌, ◌*◌, ◌/◌, ◌%◌, ◌^◌, ◌<◌, ◌≤◌, List, [], ◌∷◌, ◌++◌, length, refl}
+use Rattle.std.proofs.Common.{sym, ap, ◌∙◌, subst, arith, inl, inr, true}
 use Rattle.std.specs.Prelude.{Bool, flat_map, ◌==◌, ℤ, pos, negsuc, ◌-ℤ◌, Ok, IsTrue, is_some}
 use Rattle.std.specs.List.{AllByRecursion, AllZip}
 use Rattle.std.specs.Int.{w8, w16, w32, cast_signed}
@@ -16,9 +17,11 @@ use Rattle.feature_model.specs.Choice.{Kept}
 use Rattle.map_model.specs.Layout.{PoiFields, flag, layer_byte, value_bytes, tag_bytes, poi_flags, poi_fields_bytes}
 use Rattle.map_model.specs.TagLists.{tag_kind, tag_at}
 use Rattle.map_model.specs.Reader.{fixed_number}
-use Rattle.map_model.specs.TileReading.{tile_text_at, ranged, layer_at, id_at, value_at, kept_at, tags_at, has_flag, poi_at, IsText, IsKeptOf, IsPoi}
+use Rattle.map_model.specs.TileReading.{tile_text_at, ranged, layer_at, id_at, value_at, kept_at, tags_at, has_flag}
+use Rattle.map_model.specs.TileReading.{poi_at, IsText, IsKeptOf, IsPoi}
 use Rattle.map_model.specs.declared.fault.TileKind.{TileKind}
-use Rattle.map_model.proofs.ReaderFound.{Takes, IsFound, Finds, nothing, then, fixed_number-found, times-found, each-found, where_set-found}
+use Rattle.map_model.proofs.ReaderFound.{Takes, IsFound, Finds, nothing, then, fixed_number-found, times-found}
+use Rattle.map_model.proofs.ReaderFound.{each-found, where_set-found}
 use Rattle.map_model.proofs.PlacesFound.{IsSigned32, number-found, text_at-found, ranged-found, place_from-found}
 
 -- ---- layer
@@ -50,8 +53,10 @@ layer_at-found bytes r small e =
     let fits = bind_ok _ _ r b.2 in
     let found = byte-found TileKind.Short bytes b.0 small b.1 in
     let few = leb-true (b.0.0 / 16) 10 (require_ok _ _ _ fits.1) in
-    let code : layer_byte (pos (b.0.0 / 16) -ℤ pos 5) (b.0.0 % 16) ≡ b.0.0 = rw (-ℤ-+ℤ_cancel (pos (b.0.0 / 16)) (pos 5)) (omega arith) in
-    subst (IsFound (λ l. layer_byte l.0 l.1 ∷ []) IsLayer bytes) (ok_is ((pos (b.0.0 / 16) -ℤ pos 5, b.0.0 % 16), b.0.1) r fits.2)
+    let code : layer_byte (pos (b.0.0 / 16) -ℤ pos 5) (b.0.0 % 16) ≡ b.0.0 =
+    rw (-ℤ-+ℤ_cancel (pos (b.0.0 / 16)) (pos 5)) (omega arith) in
+    subst (IsFound (λ l. layer_byte l.0 l.1 ∷ []) IsLayer bytes)
+    (ok_is ((pos (b.0.0 / 16) -ℤ pos 5, b.0.0 % 16), b.0.1) r fits.2)
     (subst (λ c. Takes bytes (c ∷ []) b.0.1) (sym code) found.0, (layer-within (b.0.0 / 16) few, omega arith))
 
 -- ---- values and tags
@@ -68,29 +73,39 @@ signed_16 n fits = elim (cases_lt n 32768) [
   | inr high ↦ rw (le-ltb n 32768 high, le-leb (65536 - suc n) 32767 (omega (arith, high))) refl
 ]
 
-pub signed_32-within : (n : ℕ) → n < 4294967296 → lies_within (negsuc 2147483647) (pos 2147483647) (cast_signed w32 n) ≡ true
+pub signed_32-within : (n : ℕ) → n < 4294967296
+    → lies_within (negsuc 2147483647) (pos 2147483647) (cast_signed w32 n) ≡ true
 signed_32-within n fits = elim (cases_lt n 2147483648) [
   | inl low ↦ rw (lt-ltb n 2147483648 low, le-leb n 2147483647 (omega (arith, low))) refl
   | inr high ↦ rw (le-ltb n 2147483648 high, le-leb (4294967296 - suc n) 2147483647 (omega (arith, high))) refl
 ]
 
 pub value_at-found : (kind : ValueKind) → Finds (value_at kind) value_bytes (IsOfKind IsText kind)
-value_at-found ValueKind.plain bytes r small e = subst (IsFound value_bytes (IsOfKind IsText ValueKind.plain) bytes) (ok_is (KeptValue.plain, bytes) r e) (nothing bytes small, tt)
+value_at-found ValueKind.plain bytes r small e =
+    subst (IsFound value_bytes (IsOfKind IsText ValueKind.plain) bytes) (ok_is (KeptValue.plain, bytes) r e)
+    (nothing bytes small, tt)
 value_at-found ValueKind.byte bytes r small e =
     let n = bind_ok _ _ r e in
     let found = fixed_number-found TileKind.Short 1 bytes n.0 small n.1 in
-    subst (IsFound value_bytes (IsOfKind IsText ValueKind.byte) bytes) (ok_is (KeptValue.byte (cast_signed w8 n.0.0), n.0.1) r n.2)
+    subst (IsFound value_bytes (IsOfKind IsText ValueKind.byte) bytes)
+    (ok_is (KeptValue.byte (cast_signed w8 n.0.0), n.0.1) r n.2)
     (subst (λ m. Takes bytes (big_endian 1 m) n.0.1) (sym (of_z-to_z w8 n.0.0 found.1)) found.0, signed_8 n.0.0 found.1)
 value_at-found ValueKind.short bytes r small e =
     let n = bind_ok _ _ r e in
     let found = fixed_number-found TileKind.Short 2 bytes n.0 small n.1 in
-    subst (IsFound value_bytes (IsOfKind IsText ValueKind.short) bytes) (ok_is (KeptValue.short (cast_signed w16 n.0.0), n.0.1) r n.2)
-    (subst (λ m. Takes bytes (big_endian 2 m) n.0.1) (sym (of_z-to_z w16 n.0.0 found.1)) found.0, signed_16 n.0.0 found.1)
+    subst (IsFound value_bytes (IsOfKind IsText ValueKind.short) bytes)
+    (ok_is (KeptValue.short (cast_signed w16 n.0.0), n.0.1) r n.2) (
+      subst (λ m. Takes bytes (big_endian 2 m) n.0.1) (sym (of_z-to_z w16 n.0.0 found.1)) found.0,
+      signed_16 n.0.0 found.1,
+    )
 value_at-found ValueKind.int bytes r small e =
     let n = bind_ok _ _ r e in
     let found = fixed_number-found TileKind.Short 4 bytes n.0 small n.1 in
-    subst (IsFound value_bytes (IsOfKind IsText ValueKind.int) bytes) (ok_is (KeptValue.int (cast_signed w32 n.0.0), n.0.1) r n.2)
-    (subst (λ m. Takes bytes (big_endian 4 m) n.0.1) (sym (of_z-to_z w32 n.0.0 found.1)) found.0, signed_32-within n.0.0 found.1)
+    subst (IsFound value_bytes (IsOfKind IsText ValueKind.int) bytes)
+    (ok_is (KeptValue.int (cast_signed w32 n.0.0), n.0.1) r n.2) (
+      subst (λ m. Takes bytes (big_endian 4 m) n.0.1) (sym (of_z-to_z w32 n.0.0 found.1)) found.0,
+      signed_32-within n.0.0 found.1,
+    )
 value_at-found ValueKind.text bytes r small e =
     let t = bind_ok _ _ r e in
     let found = text_at-found bytes t.0 small t.1 in
@@ -106,7 +121,8 @@ id_at-found tags bytes r small e =
     let id = bind_ok _ _ r e in
     let known = bind_ok _ _ r id.2 in
     let found = number-found bytes id.0 small id.1 in
-    subst (IsFound vbe_unsigned (IsId tags) bytes) (ok_is id.0 r known.2) (found.0, (ltb-true id.0.0 (length tags) (require_ok _ _ _ known.1), found.1))
+    subst (IsFound vbe_unsigned (IsId tags) bytes) (ok_is id.0 r known.2)
+    (found.0, (ltb-true id.0.0 (length tags) (require_ok _ _ _ known.1), found.1))
 
 -- what is kept has this id
 abbrev pub IsKeptAs : List (List ℕ) → ℕ → Kept → Type 0
@@ -116,7 +132,8 @@ kept_at-found : (tags : List (List ℕ)) (id : ℕ) → Finds (kept_at tags id) 
 kept_at-found tags id bytes r small e =
     let value = bind_ok _ _ r e in
     let found = value_at-found (tag_kind (tag_at tags id)) bytes value.0 small value.1 in
-    subst (IsFound (λ k. value_bytes k.value) (IsKeptAs tags id) bytes) (ok_is (record { tag = id; value = value.0.0 }, value.0.1) r value.2) (found.0, (refl, found.1))
+    subst (IsFound (λ k. value_bytes k.value) (IsKeptAs tags id) bytes)
+    (ok_is (record { tag = id; value = value.0.0 }, value.0.1) r value.2) (found.0, (refl, found.1))
 
 -- what the ids and the values tell together
 record AreKept (tags : List (List ℕ)) (ids : List ℕ) (kept : List Kept) : Type 0 where
@@ -124,7 +141,8 @@ record AreKept (tags : List (List ℕ)) (ids : List ℕ) (kept : List Kept) : Ty
   many : length kept ≡ length ids
   each : AllByRecursion (IsKeptOf tags) kept
 
-are_kept : (tags : List (List ℕ)) (ids : List ℕ) (kept : List Kept) → AllByRecursion (IsId tags) ids → AllZip (IsKeptAs tags) ids kept → AreKept tags ids kept
+are_kept : (tags : List (List ℕ)) (ids : List ℕ) (kept : List Kept) → AllByRecursion (IsId tags) ids
+    → AllZip (IsKeptAs tags) ids kept → AreKept tags ids kept
 are_kept tags [] [] known same = record { spelt = refl; many = refl; each = tt }
 are_kept tags [] (k ∷ kept) known same = absurd same
 are_kept tags (id ∷ ids) [] known same = absurd same
@@ -134,19 +152,25 @@ are_kept tags (id ∷ ids) (k ∷ kept) known same =
     record {
       spelt = (λ i. vbe_unsigned (tag i) ++ others.spelt i);
       many = ap suc others.many;
-      each = (subst (λ m. (m < length tags) × (m < 2 ^ 63) × IsOfKind IsText (tag_kind (tag_at tags m)) k.value) tag (known.0.0, known.0.1, same.0.1), others.each);
+      each = (
+        subst (λ m. (m < length tags) × (m < 2 ^ 63) × IsOfKind IsText (tag_kind (tag_at tags m)) k.value) tag
+            (known.0.0, known.0.1, same.0.1),
+        others.each,
+      );
     }
 
 -- the ids, then the values
 abbrev pub kept_bytes : List Kept → List ℕ
 kept_bytes kept = flat_map (λ k. vbe_unsigned k.tag) kept ++ flat_map (λ k. value_bytes k.value) kept
 
-pub tags_at-found : (tags : List (List ℕ)) (count : ℕ) → Finds (tags_at tags count) kept_bytes (λ kept. (length kept ≡ count) × AllByRecursion (IsKeptOf tags) kept)
+pub tags_at-found : (tags : List (List ℕ)) (count : ℕ)
+    → Finds (tags_at tags count) kept_bytes (λ kept. (length kept ≡ count) × AllByRecursion (IsKeptOf tags) kept)
 unfolding tags_at
 tags_at-found tags count bytes r small e =
     let ids = bind_ok _ _ r e in
     let a = times-found (id_at tags) vbe_unsigned (IsId tags) (id_at-found tags) count bytes ids.0 small ids.1 in
-    let b = each-found (kept_at tags) (λ k. value_bytes k.value) (IsKeptAs tags) (kept_at-found tags) ids.0.0 ids.0.1 r a.0.behind ids.2 in
+    let b = each-found (kept_at tags) (λ k. value_bytes k.value) (IsKeptAs tags) (kept_at-found tags) ids.0.0 ids.0.1 r
+    a.0.behind ids.2 in
     let all = are_kept tags ids.0.0 r.0 a.1.1 b.1 in
     (then (subst (λ text. Takes bytes text ids.0.1) all.spelt a.0) b.0, (all.many ∙ a.1.0, all.each))
 
@@ -157,7 +181,8 @@ pub record AreTags (tags : List (List ℕ)) (bytes : List ℕ) (layer : ℤ) (ke
   pub few : length kept < 16
   pub each : AllByRecursion (IsKeptOf tags) kept
 
-pub layered : (tags : List (List ℕ)) (bytes : List ℕ) (l : (ℤ × ℕ) × List ℕ) (kept : List Kept × List ℕ) → IsBytes bytes → layer_at bytes ≡ Ok l → tags_at tags l.0.1 l.1 ≡ Ok kept → AreTags tags bytes l.0.0 kept.0 kept.1
+pub layered : (tags : List (List ℕ)) (bytes : List ℕ) (l : (ℤ × ℕ) × List ℕ) (kept : List Kept × List ℕ) → IsBytes bytes
+    → layer_at bytes ≡ Ok l → tags_at tags l.0.1 l.1 ≡ Ok kept → AreTags tags bytes l.0.0 kept.0 kept.1
 unfolding tag_bytes
 layered tags bytes l kept small el ek =
     let a = layer_at-found bytes l small el in
@@ -188,7 +213,9 @@ height-found bytes r small e =
     let found = ranged-found (pos 0) bytes r small e in
     (subst (λ z. Takes bytes (vbe_signed z) r.1) (+ℤ_idr r.0) found.0, found.1)
 
-poi_flags-sum : (p : PoiFields) (flags : ℕ) → flags < 256 → is_some p.name ≡ has_flag flags 0x80 → is_some p.house ≡ has_flag flags 0x40 → is_some p.height ≡ has_flag flags 0x20 → p.other ≡ flags % 32 → poi_flags p ≡ flags
+poi_flags-sum : (p : PoiFields) (flags : ℕ) → flags < 256 → is_some p.name ≡ has_flag flags 0x80
+    → is_some p.house ≡ has_flag flags 0x40 → is_some p.height ≡ has_flag flags 0x20 → p.other ≡ flags % 32
+    → poi_flags p ≡ flags
 poi_flags-sum p flags fits name house height other =
     let a = flag_as flags 0x80 (is_some p.name) name in
     let b = flag_as flags 0x40 (is_some p.house) house in
@@ -202,7 +229,8 @@ below_32 n = omega arith
 pub below_4 : (n : ℕ) → n % 4 < 4
 below_4 n = omega arith
 
-pub poi_at-found : (names : List (List ℕ)) (corner : Place) → Finds (poi_at names corner) (poi_fields_bytes corner) (IsPoi names)
+pub poi_at-found : (names : List (List ℕ)) (corner : Place)
+    → Finds (poi_at names corner) (poi_fields_bytes corner) (IsPoi names)
 unfolding poi_at poi_fields_bytes
 poi_at-found names corner bytes r small e =
     let place = bind_ok _ _ r e in
@@ -215,13 +243,33 @@ poi_at-found names corner bytes r small e =
     let a = place_from-found corner bytes place.0 small place.1 in
     let b = layered names place.0.1 layer.0 kept.0 a.0.behind layer.1 kept.1 in
     let c = byte-found TileKind.Short kept.0.1 flags.0 b.spelt.behind flags.1 in
-    let d = where_set-found tile_text_at string IsText text_at-found (has_flag flags.0.0 0x80) flags.0.1 name.0 c.0.behind name.1 in
-    let h = where_set-found tile_text_at string IsText text_at-found (has_flag flags.0.0 0x40) name.0.1 house.0 d.0.behind house.1 in
-    let i = where_set-found (ranged (pos 0)) vbe_signed IsSigned32 height-found (has_flag flags.0.0 0x20) house.0.1 height.0 h.0.behind height.1 in
-    let p : PoiFields = record { place = place.0.0; layer = layer.0.0.0; tags = kept.0.0; other = flags.0.0 % 32; name = name.0.0; house = house.0.0; height = height.0.0 } in
+    let d = where_set-found tile_text_at string IsText text_at-found (has_flag flags.0.0 0x80) flags.0.1 name.0
+    c.0.behind name.1 in
+    let h = where_set-found tile_text_at string IsText text_at-found (has_flag flags.0.0 0x40) name.0.1 house.0
+    d.0.behind house.1 in
+    let i = where_set-found (ranged (pos 0)) vbe_signed IsSigned32 height-found (has_flag flags.0.0 0x20) house.0.1
+    height.0 h.0.behind height.1 in
+    let p : PoiFields = record {
+      place = place.0.0;
+      layer = layer.0.0.0;
+      tags = kept.0.0;
+      other = flags.0.0 % 32;
+      name = name.0.0;
+      house = house.0.0;
+      height = height.0.0;
+    } in
     let sum = poi_flags-sum p flags.0.0 c.1 d.1.1 h.1.1 i.1.1 refl in
     let told = subst (λ f. Takes kept.0.1 (f ∷ []) flags.0.1) (sym sum) c.0 in
     subst (IsFound (poi_fields_bytes corner) (IsPoi names) bytes) (ok_is (p, height.0.1) r height.2) (
       then (then (then (then a.0 b.spelt) (then told d.0)) h.0) i.0,
-      record { place = a.1; layer = b.low; few = b.few; kept = b.each; other = below_32 flags.0.0; name = d.1.0; house = h.1.0; height = i.1.0 },
+      record {
+        place = a.1;
+        layer = b.low;
+        few = b.few;
+        kept = b.each;
+        other = below_32 flags.0.0;
+        name = d.1.0;
+        house = h.1.0;
+        height = i.1.0;
+      },
     )

@@ -1,5 +1,7 @@
--- Rows fall and columns rise with the place, and both stay below 2^z: for rectangles of tiles and for the corners of a box.
-use Rattle.std.proofs.Common.{◌≡◌, ℕ, zero, suc, ◌+◌, ◌-◌, ◌*◌, ◌/◌, ◌^◌, ◌<◌, ◌≤◌, refl, sym, arith, inl, inr, true, false}
+-- Rows fall and columns rise with the place, and both stay below 2^z: for rectangles of tiles and for the corners of a
+-- box.
+use Rattle.std.proofs.Common.{◌≡◌, ℕ, zero, suc, ◌+◌, ◌-◌, ◌*◌, ◌/◌, ◌^◌, ◌<◌, ◌≤◌, refl, sym, arith, inl, inr, true}
+use Rattle.std.proofs.Common.{false}
 use Rattle.std.specs.Prelude.{ℤ, pos, negsuc, Bool, int_le, ◌+ℤ◌, min, ◌&&◌, IsTrue}
 use Rattle.std.proofs.lemmas.Bool.{cases_Bool, cases_lt, le-leb, leb-true, lt-ltb, le-ltb, and_parts}
 use Rattle.std.proofs.lemmas.Nat.{pow-add, pow_pos}
@@ -44,7 +46,9 @@ greatest-more p q (suc n) more =
 
 fine_row-falls : (a b : ℤ) → int_le a b ≡ true → fine_row b ≤ fine_row a
 unfolding fine_row
-fine_row-falls a b le = greatest-more (λ k. int_le b (edge_lat k)) (λ k. int_le a (edge_lat k)) 262143 (λ k reaches. int_le-trans a b (edge_lat k) le reaches)
+fine_row-falls a b le =
+    greatest-more (λ k. int_le b (edge_lat k)) (λ k. int_le a (edge_lat k)) 262143
+    (λ k reaches. int_le-trans a b (edge_lat k) le reaches)
 
 fine_row-le : (lat : ℤ) → fine_row lat ≤ 262143
 unfolding fine_row
@@ -61,7 +65,8 @@ row-below z lat le =
     let all : 2 ^ z * 2 ^ (18 - z) ≡ 2 ^ (z + (18 - z)) = sym (pow-add 2 z (18 - z)) in
     let whole : 2 ^ (z + (18 - z)) ≡ 262144 = rw (sum) refl in
     let last = fine_row-le lat in
-    (div-lt_iff_lt-mul {k = 2 ^ (18 - z)} {x = fine_row lat} {y = 2 ^ z} (pow_pos (18 - z))).1 (omega (arith, all, whole, last))
+    (div-lt_iff_lt-mul {k = 2 ^ (18 - z)} {x = fine_row lat} {y = 2 ^ z} (pow_pos (18 - z))).1
+    (omega (arith, all, whole, last))
   where
     sum : z + (18 - z) ≡ 18
     sum = omega (arith, le)
@@ -82,15 +87,18 @@ above_zero-rises : (a b : ℤ) (m : ℕ) → int_le a b ≡ true → above_zero 
 above_zero-rises (pos a) (pos b) m le = let low = leb-true a b le in omega (arith, low, east-pos a m, east-pos b m)
 above_zero-rises (pos a) (negsuc b) m le = absurd (cc le)
 above_zero-rises (negsuc a) (pos b) m le = omega (arith, east-neg a m, east-pos b m)
-above_zero-rises (negsuc a) (negsuc b) m le = let low = leb-true b a le in omega (arith, low, east-neg a m, east-neg b m)
+above_zero-rises (negsuc a) (negsuc b) m le = let low =
+    leb-true b a le in omega (arith, low, east-neg a m, east-neg b m)
 
 -- the further east, the greater the column
 pub column-rises : (z : ℕ) (a b : ℤ) → int_le a b ≡ true → column z a ≤ column z b
 unfolding column
 column-rises z a b le =
     let east = above_zero-rises a b 180000000 le in
-    let far : above_zero (a +ℤ pos 180000000) * 2 ^ z ≤ above_zero (b +ℤ pos 180000000) * 2 ^ z = mul-le-mul_right (2 ^ z) east in
-    let part = div-rises (above_zero (a +ℤ pos 180000000) * 2 ^ z) (above_zero (b +ℤ pos 180000000) * 2 ^ z) 360000000 (omega arith) far in
+    let far : above_zero (a +ℤ pos 180000000) * 2 ^ z ≤ above_zero (b +ℤ pos 180000000) * 2 ^ z =
+    mul-le-mul_right (2 ^ z) east in
+    let part = div-rises (above_zero (a +ℤ pos 180000000) * 2 ^ z) (above_zero (b +ℤ pos 180000000) * 2 ^ z) 360000000
+    (omega arith) far in
     omega (arith, part)
 
 pub column-below : (z : ℕ) (lon : ℤ) → column z lon < 2 ^ z
@@ -103,8 +111,10 @@ column-below z lon = let some = pow_pos z in omega (arith, some)
 pub rect-tiles : (rect : Rect) (z : ℕ) → IsTrue (is_rect rect) → z ≤ 18 → IsTileRect (tile_rect rect z)
 unfolding tile_rect
 rect-tiles rect z is le =
-    let sides = and_parts (is_latitude rect.min_lat && is_latitude rect.max_lat && is_longitude rect.min_lon && is_longitude rect.max_lon && int_le rect.min_lat rect.max_lat) (int_le rect.min_lon rect.max_lon) is in
-    let lats = and_parts (is_latitude rect.min_lat && is_latitude rect.max_lat && is_longitude rect.min_lon && is_longitude rect.max_lon) (int_le rect.min_lat rect.max_lat) sides.0 in
+    let sides = and_parts (is_latitude rect.min_lat && is_latitude rect.max_lat && is_longitude rect.min_lon
+    && is_longitude rect.max_lon && int_le rect.min_lat rect.max_lat) (int_le rect.min_lon rect.max_lon) is in
+    let lats = and_parts (is_latitude rect.min_lat && is_latitude rect.max_lat && is_longitude rect.min_lon
+    && is_longitude rect.max_lon) (int_le rect.min_lat rect.max_lat) sides.0 in
     record {
       columns = column-rises z rect.min_lon rect.max_lon sides.1;
       rows = row-falls z rect.min_lat rect.max_lat lats.1;

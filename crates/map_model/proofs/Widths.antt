@@ -1,5 +1,6 @@
 -- How many bytes numbers, texts, places and rings take: for the encoder of a tile, which has room for them.
-use Rattle.std.proofs.Common.{◌≡◌, ℕ, zero, suc, ◌+◌, ◌-◌, ◌*◌, ◌/◌, ◌^◌, ◌<◌, ◌≤◌, List, [], ◌∷◌, ◌++◌, map, length, refl, sym, ap, ◌∙◌, arith, length-append, true, false, Option, Some, None, inl, inr}
+use Rattle.std.proofs.Common.{◌≡◌, ℕ, zero, suc, ◌+◌, ◌-◌, ◌*◌, ◌/◌, ◌^◌, ◌<◌, ◌≤◌, List, [], ◌∷◌, ◌++◌, map, length}
+use Rattle.std.proofs.Common.{refl, sym, ap, ◌∙◌, arith, length-append, true, false, Option, Some, None, inl, inr}
 use Rattle.std.specs.Prelude.{ℤ, pos, negsuc, nat_abs, ◌-ℤ◌, Bool, flat_map, zip, IfSome, leb, ◌&&◌, cond}
 use Rattle.std.specs.List.{AllByRecursion}
 use Rattle.std.proofs.lemmas.Bool.{cases_lt, lt-ltb, le-ltb, leb-true, and_parts}
@@ -11,7 +12,8 @@ use Rattle.feature_model.specs.Inside.{Ring}
 use Rattle.feature_model.specs.Features.{Block}
 use Rattle.feature_model.proofs.Totals.{total}
 use Rattle.map_model.specs.Rectangles.{origin}
-use Rattle.map_model.specs.Layout.{optional, step, step_bytes, steps_from, doubled, ring_steps, coordinate_bytes, ring_bytes, block_bytes}
+use Rattle.map_model.specs.Layout.{optional, step, step_bytes, steps_from, doubled, ring_steps, coordinate_bytes}
+use Rattle.map_model.specs.Layout.{ring_bytes, block_bytes}
 use Rattle.map_model.specs.TileReading.{IsPlaceOf32Bits}
 
 -- ---- numbers and texts
@@ -75,7 +77,8 @@ near-step m a b ha hb =
     record { lat = omega (arith, lat, al, bl); lon = omega (arith, lon, an, bn) }
 
 near-more : (m n : ℕ) (p : Place) → m ≤ n → IsNear m p → IsNear n p
-near-more m n p le h = let a = h.lat in let b = h.lon in record { lat = omega (arith, le, a); lon = omega (arith, le, b) }
+near-more m n p le h = let a = h.lat in let b =
+    h.lon in record { lat = omega (arith, le, a); lon = omega (arith, le, b) }
 
 near-all : (m n : ℕ) (ps : Ring) → m ≤ n → AllByRecursion (IsNear m) ps → AllByRecursion (IsNear n) ps
 near-all m n [] le all = tt
@@ -85,18 +88,28 @@ pub near-places : (ps : Ring) → AllByRecursion IsPlaceOf32Bits ps → AllByRec
 near-places [] all = tt
 near-places (p ∷ ps) all = (near-32 p all.0, near-places ps all.1)
 
-near-steps : (m : ℕ) (before : Place) (ps : Ring) → IsNear m before → AllByRecursion (IsNear m) ps → AllByRecursion (IsNear (m + m)) (steps_from before ps)
+near-steps : (m : ℕ) (before : Place) (ps : Ring) → IsNear m before → AllByRecursion (IsNear m) ps
+    → AllByRecursion (IsNear (m + m)) (steps_from before ps)
 near-steps m before [] h all = tt
 near-steps m before (p ∷ ps) h all = (near-step m before p h all.0, near-steps m p ps all.0 all.1)
 
 near-doubled : (m : ℕ) (ps : Ring) → AllByRecursion (IsNear m) ps → AllByRecursion (IsNear (m + m)) (doubled ps)
 near-doubled m [] all = tt
-near-doubled m (p ∷ ps) all = (near-more m (m + m) p (omega arith) all.0, near-steps m origin ps (record { lat = omega arith; lon = omega arith }) all.1)
+near-doubled m (p ∷ ps) all = (
+  near-more m (m + m) p (omega arith) all.0,
+  near-steps m origin ps (record { lat = omega arith; lon = omega arith })
+      all.1,
+)
 
-near-ring : (corner : Place) (double : Bool) (ring : Ring) → IsPlaceOf32Bits corner → AllByRecursion IsPlaceOf32Bits ring → AllByRecursion (IsNear 8589934592) (ring_steps corner double ring)
+near-ring : (corner : Place) (double : Bool) (ring : Ring) → IsPlaceOf32Bits corner
+    → AllByRecursion IsPlaceOf32Bits ring → AllByRecursion (IsNear 8589934592) (ring_steps corner double ring)
 unfolding ring_steps
-near-ring corner true ring at all = near-doubled 4294967296 (steps_from corner ring) (near-steps 2147483648 corner ring (near-32 corner at) (near-places ring all))
-near-ring corner false ring at all = near-all 4294967296 8589934592 (steps_from corner ring) (omega arith) (near-steps 2147483648 corner ring (near-32 corner at) (near-places ring all))
+near-ring corner true ring at all =
+    near-doubled 4294967296 (steps_from corner ring)
+    (near-steps 2147483648 corner ring (near-32 corner at) (near-places ring all))
+near-ring corner false ring at all =
+    near-all 4294967296 8589934592 (steps_from corner ring) (omega arith)
+    (near-steps 2147483648 corner ring (near-32 corner at) (near-places ring all))
 
 count-steps : (before : Place) (ps : Ring) → length (steps_from before ps) ≡ length ps
 count-steps before [] = refl
@@ -126,7 +139,8 @@ length-place a b ha hb =
     let lon = near.lon in
     length-step (step a b) (omega (arith, lat)) (omega (arith, lon))
 
-length-steps : (steps : Ring) → AllByRecursion (IsNear 8589934592) steps → length (flat_map step_bytes steps) ≤ 10 * length steps
+length-steps : (steps : Ring) → AllByRecursion (IsNear 8589934592) steps
+    → length (flat_map step_bytes steps) ≤ 10 * length steps
 length-steps [] all = omega arith
 length-steps (s ∷ steps) all =
     let near = all.0 in
@@ -138,14 +152,17 @@ length-steps (s ∷ steps) all =
     omega (arith, here, rest, whole)
 
 -- the places of a ring take at most ten bytes each, under either delta kind
-pub length-coordinates : (corner : Place) (double : Bool) (ring : Ring) → IsPlaceOf32Bits corner → AllByRecursion IsPlaceOf32Bits ring → length (coordinate_bytes corner double ring) ≤ 10 * length ring
+pub length-coordinates : (corner : Place) (double : Bool) (ring : Ring) → IsPlaceOf32Bits corner
+    → AllByRecursion IsPlaceOf32Bits ring → length (coordinate_bytes corner double ring) ≤ 10 * length ring
 unfolding coordinate_bytes
 length-coordinates corner double ring at all =
     let steps = length-steps (ring_steps corner double ring) (near-ring corner double ring at all) in
     let count = count-ring corner double ring in
     omega (arith, steps, count)
 
-pub length-ring : (corner : Place) (double : Bool) (ring : Ring) → IsPlaceOf32Bits corner → AllByRecursion IsPlaceOf32Bits ring → length ring < 2 ^ 35 → length (ring_bytes corner double ring) ≤ 5 + 10 * length ring
+pub length-ring : (corner : Place) (double : Bool) (ring : Ring) → IsPlaceOf32Bits corner
+    → AllByRecursion IsPlaceOf32Bits ring → length ring < 2 ^ 35
+    → length (ring_bytes corner double ring) ≤ 5 + 10 * length ring
 unfolding ring_bytes
 length-ring corner double ring at all few =
     let count = length-five (length ring) few in
@@ -153,7 +170,8 @@ length-ring corner double ring at all few =
     let whole = length-append (vbe_unsigned (length ring)) (coordinate_bytes corner double ring) in
     omega (arith, count, places, whole)
 
-length-rings : (corner : Place) (double : Bool) (rings : Block) → IsPlaceOf32Bits corner → AllByRecursion (λ ring. AllByRecursion IsPlaceOf32Bits ring × (length ring < 2 ^ 35)) rings
+length-rings : (corner : Place) (double : Bool) (rings : Block) → IsPlaceOf32Bits corner
+    → AllByRecursion (λ ring. AllByRecursion IsPlaceOf32Bits ring × (length ring < 2 ^ 35)) rings
     → length (flat_map (ring_bytes corner double) rings) ≤ 5 * length rings + 10 * total length rings
 length-rings corner double [] at all = omega arith
 length-rings corner double (ring ∷ rings) at all =
@@ -163,8 +181,10 @@ length-rings corner double (ring ∷ rings) at all =
     omega (arith, here, rest, whole)
 
 -- a block takes at most ten bytes for each ring and ten for each place
-pub length-block : (corner : Place) (double : Bool) (rings : Block) → IsPlaceOf32Bits corner → AllByRecursion (λ ring. AllByRecursion IsPlaceOf32Bits ring × (length ring < 2 ^ 35)) rings
-    → 1 ≤ length rings → length rings < 2 ^ 35 → length (block_bytes corner double rings) ≤ 10 * length rings + 10 * total length rings
+pub length-block : (corner : Place) (double : Bool) (rings : Block) → IsPlaceOf32Bits corner
+    → AllByRecursion (λ ring. AllByRecursion IsPlaceOf32Bits ring × (length ring < 2 ^ 35)) rings
+    → 1 ≤ length rings → length rings < 2 ^ 35
+    → length (block_bytes corner double rings) ≤ 10 * length rings + 10 * total length rings
 unfolding block_bytes
 length-block corner double rings at all some few =
     let count = length-five (length rings) few in

@@ -1,5 +1,7 @@
--- The header of a map: Mapsforge Specification, Binary Map File Format, version 5, on the file header. Fixed-width numbers are big-endian, and places are in microdegrees.
-use Rattle.std.specs.Prelude.{ℕ, ◌<◌, ◌≤◌, ◌^◌, IfSome, IsTrue, map, sum, take, ◌+◌, ◌*◌, ℤ, List, [], ◌∷◌, ◌++◌, zip, flat_map, length, sum_by, Option, is_some, codes}
+-- The header of a map: Mapsforge Specification, Binary Map File Format, version 5, on the file header. Fixed-width
+-- numbers are big-endian, and places are in microdegrees.
+use Rattle.std.specs.Prelude.{ℕ, ◌<◌, ◌≤◌, ◌^◌, IfSome, IsTrue, map, sum, take, ◌+◌, ◌*◌, ℤ, List, [], ◌∷◌, ◌++◌, zip}
+use Rattle.std.specs.Prelude.{flat_map, length, sum_by, Option, is_some, codes}
 use Rattle.std.specs.Int.{w32, cast_unsigned}
 use Rattle.std.specs.List.{enumerate_from}
 use Rattle.std.specs.Str.{is_utf8}
@@ -26,7 +28,8 @@ pub record HeadSettings : Type 0 where
 abbrev pub IsShortText : List ℕ → Type 0
 IsShortText text = (length text ≤ 255) × IsTrue (is_utf8 text)
 
--- What the words can say: a start position on the earth, a start zoom level of at most 21, texts of at most 255 bytes, and intervals that follow each other.
+-- What the words can say: a start position on the earth, a start zoom level of at most 21, texts of at most 255 bytes,
+-- and intervals that follow each other.
 pub record IsHeadSettings (set : HeadSettings) : Type 0 where
   pub date : set.date < 2 ^ 63
   pub start : IfSome set.start (λ p. IsTrue (is_on_earth p))
@@ -59,7 +62,8 @@ box_bytes box = be_signed box.min_lat ++ be_signed box.min_lon ++ be_signed box.
 
 -- the flags of the optional fields that are there: start position, start zoom level, language, comment, created by
 abbrev pub head_flags : HeadSettings → ℕ
-head_flags set = flag (is_some set.start) 0x40 + flag (is_some set.start_zoom) 0x20 + flag (is_some set.language) 0x10 + flag (is_some set.comment) 0x08 + flag (is_some set.created_by) 0x04
+head_flags set = flag (is_some set.start) 0x40 + flag (is_some set.start_zoom) 0x20 + flag (is_some set.language) 0x10
+    + flag (is_some set.comment) 0x08 + flag (is_some set.created_by) 0x04
 
 -- a count of two bytes, and a string for each tag
 abbrev pub tag_list_bytes : List (List ℕ) → List ℕ
@@ -85,9 +89,11 @@ middle_bytes tile_size other set names =
     ++ tag_list_bytes names.poi ++ tag_list_bytes names.way
     ++ big_endian 1 (length set.intervals)
 
--- a zoom interval: base, least and greatest zoom level of one byte each, then start and size of its sub-file of eight bytes each
+-- a zoom interval: base, least and greatest zoom level of one byte each, then start and size of its sub-file of eight
+-- bytes each
 abbrev pub interval_bytes : Interval × SubFile → List ℕ
-interval_bytes at = big_endian 1 at.0.base ++ big_endian 1 at.0.min ++ big_endian 1 at.0.max ++ big_endian 8 at.1.start ++ big_endian 8 at.1.size
+interval_bytes at = big_endian 1 at.0.base ++ big_endian 1 at.0.min ++ big_endian 1 at.0.max ++ big_endian 8 at.1.start
+    ++ big_endian 8 at.1.size
 
 -- the fields after the header size; the file size counts all bytes of the file
 unfoldable pub fields_bytes : ℕ → HeaderFields → List ℕ
@@ -99,11 +105,13 @@ fields_bytes file_size h =
 
 -- the whole header; the header size counts the bytes after its own field
 unfoldable pub header_fields_bytes : ℕ → HeaderFields → List ℕ
-header_fields_bytes file_size h = magic_word ++ big_endian 4 (length (fields_bytes file_size h)) ++ fields_bytes file_size h
+header_fields_bytes file_size h =
+    magic_word ++ big_endian 4 (length (fields_bytes file_size h)) ++ fields_bytes file_size h
 
 -- what is written in the header
 unfoldable pub written_header : HeadSettings → Rect → TagLists → List SubFile → HeaderFields
-written_header set box names subs = record { settings = set; bounds = box; tile_size = 256; other = 0; names = names; subs = subs; after = [] }
+written_header set box names subs =
+    record { settings = set; bounds = box; tile_size = 256; other = 0; names = names; subs = subs; after = [] }
 
 -- the size of the header, whatever its sub-files: 60 bytes up to the box, and 19 for each interval
 unfoldable pub header_size : HeadSettings → TagLists → ℕ

@@ -1,5 +1,7 @@
--- Zoom intervals and their tiles: Mapsforge Specification, Binary Map File Format, version 5, on zoom intervals; the rule that intervals keep is this project's profile.
-use Rattle.std.specs.Prelude.{ℕ, suc, max, nat_le, ◌==◌, if◌then◌else◌, Bool, ◌&&◌, List, map, zip, drop, length, Option, Some, None}
+-- Zoom intervals and their tiles: Mapsforge Specification, Binary Map File Format, version 5, on zoom intervals; the
+-- rule that intervals keep is this project's profile.
+use Rattle.std.specs.Prelude.{ℕ, suc, max, nat_le, ◌==◌, if◌then◌else◌, Bool, ◌&&◌, List, map, zip, drop, length}
+use Rattle.std.specs.Prelude.{Option, Some, None}
 use Rattle.std.specs.List.{list_all}
 use Rattle.mf_base.specs.declared.place.Rect.{Rect}
 use Rattle.mf_base.specs.declared.tile.Interval.{Interval}
@@ -8,7 +10,8 @@ use Rattle.map_model.specs.TileRects.{from_to, tile_rect, tiles_of}
 
 -- the minimum is at most the base, the base at most the maximum and at most 16, and the maximum at most 21
 abbrev pub is_zoom_range : Interval → Bool
-is_zoom_range interval = nat_le interval.min interval.base && nat_le interval.base interval.max && nat_le interval.base 16 && nat_le interval.max 21
+is_zoom_range interval = nat_le interval.min interval.base && nat_le interval.base interval.max
+    && nat_le interval.base 16 && nat_le interval.max 21
 
 -- 1 to 8 intervals, of which each minimum but the first is the maximum before plus 1
 abbrev pub are_intervals : List Interval → Bool
@@ -24,7 +27,8 @@ zooms interval = from_to interval.min interval.max
 abbrev pub raised_zoom : Interval → ℕ → ℕ
 raised_zoom interval zoom = max zoom interval.min
 
--- The effective zoom of a feature's zoom in an interval: the greater of it and the minimum, or None where it is above the maximum.
+-- The effective zoom of a feature's zoom in an interval: the greater of it and the minimum, or None where it is above
+-- the maximum.
 abbrev pub effective_zoom : ℕ → Interval → Option ℕ
 effective_zoom zoom interval = if nat_le zoom interval.max then Some (raised_zoom interval zoom) else None
 

@@ -1,5 +1,6 @@
 -- Closed rings, and where a label stands: this project's profile.
-use Rattle.std.specs.Prelude.{length, if◌then◌else◌, Bool, false, ◌&&◌, ◌+ℤ◌, [], ◌∷◌, slice_index_or, Option, Some, None}
+use Rattle.std.specs.Prelude.{length, if◌then◌else◌, Bool, false, ◌&&◌, ◌+ℤ◌, [], ◌∷◌, slice_index_or, Option, Some}
+use Rattle.std.specs.Prelude.{None}
 use Rattle.std.specs.Ordering.{int_eq}
 use Rattle.mf_base.specs.declared.place.Place.{Place}
 use Rattle.mf_base.specs.declared.place.Rect.{Rect}
@@ -24,7 +25,10 @@ first_ring_is_closed (ring ∷ rings) = is_closed ring
 
 -- the middle of a rectangle, rounded down
 abbrev pub middle : Rect → Place
-middle rect = record { lat = floor_div (rect.min_lat +ℤ rect.max_lat) 2; lon = floor_div (rect.min_lon +ℤ rect.max_lon) 2 }
+middle rect = record {
+  lat = floor_div (rect.min_lat +ℤ rect.max_lat) 2;
+  lon = floor_div (rect.min_lon +ℤ rect.max_lon) 2;
+}
 
 -- A feature with the label mark whose first ring is closed has its label in the middle of its rectangle.
 unfoldable pub label_place : Feature → Option Place

@@ -1,5 +1,7 @@
--- The bytes of a POI, a way and a tile: Mapsforge Specification, Binary Map File Format, version 5, on tile header, POIs and ways; variable values are this project's profile. Places are in microdegrees.
-use Rattle.std.specs.Prelude.{ℕ, map, zip, ◌+◌, ◌*◌, if◌then◌else◌, Bool, ℤ, pos, ◌+ℤ◌, ◌-ℤ◌, List, [], ◌∷◌, ◌++◌, flat_map, length, Option, Some, None, is_some}
+-- The bytes of a POI, a way and a tile: Mapsforge Specification, Binary Map File Format, version 5, on tile header,
+-- POIs and ways; variable values are this project's profile. Places are in microdegrees.
+use Rattle.std.specs.Prelude.{ℕ, map, zip, ◌+◌, ◌*◌, if◌then◌else◌, Bool, ℤ, pos, ◌+ℤ◌, ◌-ℤ◌, List, [], ◌∷◌, ◌++◌}
+use Rattle.std.specs.Prelude.{flat_map, length, Option, Some, None, is_some}
 use Rattle.std.specs.Int.{w8, w16, w32, cast_unsigned}
 use Rattle.mf_base.specs.Spelling.{vbe_unsigned, vbe_signed, string, big_endian}
 use Rattle.mf_base.specs.declared.place.Place.{Place}
@@ -20,7 +22,8 @@ pub record PoiFields : Type 0 where
   pub house : Option (List ℕ)
   pub height : Option ℤ
 
--- What the bytes of a way tell. `counted` says that the number of data blocks stands there, `double` that the places are under double delta.
+-- What the bytes of a way tell. `counted` says that the number of data blocks stands there, `double` that the places
+-- are under double delta.
 pub record WayFields : Type 0 where
   pub bits : ℕ
   pub layer : ℤ
@@ -58,7 +61,8 @@ flag set bit = if set then bit else 0
 abbrev pub layer_byte : ℤ → ℕ → ℕ
 layer_byte layer tags = 16 * above_zero (layer +ℤ pos 5) + tags
 
--- a variable value: a number of one, two or four bytes in two's complement, the highest first, or a string; a plain tag has none
+-- a variable value: a number of one, two or four bytes in two's complement, the highest first, or a string; a plain tag
+-- has none
 abbrev pub value_bytes : KeptValue → List ℕ
 value_bytes KeptValue.plain = []
 value_bytes (KeptValue.byte n) = big_endian 1 (cast_unsigned w8 n)
@@ -68,7 +72,8 @@ value_bytes (KeptValue.text bytes) = string bytes
 
 -- layer and number of tags, the tag ids, then the variable values in the same order
 unfoldable pub tag_bytes : ℤ → List Kept → List ℕ
-tag_bytes layer tags = layer_byte layer (length tags) ∷ flat_map (λ k. vbe_unsigned k.tag) tags ++ flat_map (λ k. value_bytes k.value) tags
+tag_bytes layer tags =
+    layer_byte layer (length tags) ∷ flat_map (λ k. vbe_unsigned k.tag) tags ++ flat_map (λ k. value_bytes k.value) tags
 
 -- how far b is from a, in latitude and in longitude
 abbrev pub step : Place → Place → Place
@@ -87,7 +92,8 @@ poi_flags p = flag (is_some p.name) 0x80 + flag (is_some p.house) 0x40 + flag (i
 -- a POI: its place less the corner, layer and tags, the flags, then the fields that are there
 unfoldable pub poi_fields_bytes : Place → PoiFields → List ℕ
 poi_fields_bytes corner p =
-    step_bytes (step corner p.place) ++ tag_bytes p.layer p.tags ++ poi_flags p ∷ optional string p.name ++ optional string p.house ++ optional vbe_signed p.height
+    step_bytes (step corner p.place) ++ tag_bytes p.layer p.tags ++ poi_flags p ∷ optional string p.name
+    ++ optional string p.house ++ optional vbe_signed p.height
 
 -- ---- way
 
@@ -116,18 +122,22 @@ ring_bytes corner double ring = vbe_unsigned (length ring) ++ coordinate_bytes c
 unfoldable pub block_bytes : Place → Bool → Block → List ℕ
 block_bytes corner double rings = vbe_unsigned (length rings) ++ flat_map (ring_bytes corner double) rings
 
--- the flags of a way: 0x80 name, 0x40 house number, 0x20 reference, 0x10 label, 0x08 number of data blocks, 0x04 double delta
+-- the flags of a way: 0x80 name, 0x40 house number, 0x20 reference, 0x10 label, 0x08 number of data blocks, 0x04 double
+-- delta
 abbrev pub way_flags : WayFields → ℕ
-way_flags w = flag (is_some w.name) 0x80 + flag (is_some w.house) 0x40 + flag (is_some w.reference) 0x20 + flag (is_some w.label) 0x10 + flag w.counted 0x08 + flag w.double 0x04 + w.other
+way_flags w = flag (is_some w.name) 0x80 + flag (is_some w.house) 0x40 + flag (is_some w.reference) 0x20
+    + flag (is_some w.label) 0x10 + flag w.counted 0x08 + flag w.double 0x04 + w.other
 
 -- the first place of the first ring
 abbrev pub first_of_blocks : List Block → Place
 first_of_blocks blocks = first_place (flat_map (λ rings. flat_map (λ ring. ring) rings) blocks)
 
--- The fields after the data size: the sub-tile bitmap, layer and tags, the flags, the fields that are there, the data blocks. The label is its place less the first place of the first ring.
+-- The fields after the data size: the sub-tile bitmap, layer and tags, the flags, the fields that are there, the data
+-- blocks. The label is its place less the first place of the first ring.
 unfoldable pub way_body_bytes : Place → WayFields → List ℕ
 way_body_bytes corner w =
-    big_endian 2 w.bits ++ tag_bytes w.layer w.tags ++ way_flags w ∷ optional string w.name ++ optional string w.house ++ optional string w.reference
+    big_endian 2 w.bits ++ tag_bytes w.layer w.tags ++ way_flags w ∷ optional string w.name ++ optional string w.house
+    ++ optional string w.reference
     ++ optional (λ p. step_bytes (step (first_of_blocks w.blocks) p)) w.label
     ++ (if w.counted then vbe_unsigned (length w.blocks) else [])
     ++ flat_map (block_bytes corner w.double) w.blocks
@@ -142,7 +152,8 @@ way_fields_bytes corner w = sized (way_body_bytes corner w)
 abbrev pub level_count_bytes : Level → List ℕ
 level_count_bytes level = vbe_unsigned (length level.pois) ++ vbe_unsigned (length level.ways)
 
--- A tile: the zoom table, then the first-way offset, which is the length of the POIs in bytes, then the POIs and the ways, each by zoom level.
+-- A tile: the zoom table, then the first-way offset, which is the length of the POIs in bytes, then the POIs and the
+-- ways, each by zoom level.
 unfoldable pub levels_bytes : Place → List Level → List ℕ
 levels_bytes corner levels =
     flat_map level_count_bytes levels

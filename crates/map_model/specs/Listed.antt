@@ -62,11 +62,29 @@ shown_tags texts kept = map (λ k. shown_value (tag_at texts k.tag) k.value) kep
 
 -- a POI of this zoom level
 abbrev pub shown_poi : List (List ℕ) → ℕ → PoiFields → ListedPoi
-shown_poi texts zoom p = record { zoom = zoom; layer = p.layer; place = p.place; tags = shown_tags texts p.tags; name = p.name; house = p.house; height = p.height }
+shown_poi texts zoom p = record {
+  zoom = zoom;
+  layer = p.layer;
+  place = p.place;
+  tags = shown_tags texts p.tags;
+  name = p.name;
+  house = p.house;
+  height = p.height;
+}
 
 -- a way of this zoom level
 abbrev pub shown_way : List (List ℕ) → ℕ → WayFields → ListedWay
-shown_way texts zoom w = record { zoom = zoom; layer = w.layer; bits = w.bits; tags = shown_tags texts w.tags; name = w.name; house = w.house; reference = w.reference; label = w.label; blocks = w.blocks }
+shown_way texts zoom w = record {
+  zoom = zoom;
+  layer = w.layer;
+  bits = w.bits;
+  tags = shown_tags texts w.tags;
+  name = w.name;
+  house = w.house;
+  reference = w.reference;
+  label = w.label;
+  blocks = w.blocks;
+}
 
 -- the records of a tile: the POIs by zoom level, then the ways
 unfoldable pub shown_levels : TagLists → Interval → List Level → List Listed

@@ -1,5 +1,7 @@
--- The whole map, its limits and the report: Mapsforge Specification, Binary Map File Format, version 5, on the structure of the file; limits and report are this project's profile.
-use Rattle.std.specs.Prelude.{ℕ, ◌+◌, ◌^◌, max, nat_lt, nat_le, List, [], ◌∷◌, ◌++◌, map, flat_map, fold, length, sum_by, count_by, find, Option, option_map, codes, decimal}
+-- The whole map, its limits and the report: Mapsforge Specification, Binary Map File Format, version 5, on the
+-- structure of the file; limits and report are this project's profile.
+use Rattle.std.specs.Prelude.{ℕ, ◌+◌, ◌^◌, max, nat_lt, nat_le, List, [], ◌∷◌, ◌++◌, map, flat_map, fold, length}
+use Rattle.std.specs.Prelude.{sum_by, count_by, find, Option, option_map, codes, decimal}
 use Rattle.std.specs.List.{enumerate_from}
 use Rattle.std.specs.Option.{option_or}
 use Rattle.mf_base.specs.declared.place.Rect.{Rect}
@@ -51,16 +53,19 @@ largest_tile set box features = fold max 0 (map (tile_weight features) (all_tile
 
 -- the greatest weight of all candidates and tiles, or 0
 unfoldable pub largest : HeadSettings → Mapping → Rect → List Entity → ℕ
-largest set mapping box entities = max (largest_candidate mapping entities) (largest_tile set box (features mapping entities))
+largest set mapping box entities =
+    max (largest_candidate mapping entities) (largest_tile set box (features mapping entities))
 
 -- the first tile that weighs more than the limit, by interval, then y, then x
 unfoldable pub tile_limit_fault : ℕ → HeadSettings → Rect → List Feature → Option LimitFault
 tile_limit_fault limit set box features =
-    option_map (λ t. LimitFault.Tile t.index t.x t.y (tile_weight features t)) (find (λ t. nat_lt limit (tile_weight features t)) (all_tiles set box))
+    option_map (λ t. LimitFault.Tile t.index t.x t.y (tile_weight features t))
+    (find (λ t. nat_lt limit (tile_weight features t)) (all_tiles set box))
 
 -- the first interval whose sub-file has 2^39 bytes or more
 unfoldable pub sub_file_limit_fault : List ℕ → Option LimitFault
-sub_file_limit_fault sizes = option_map (λ at. LimitFault.SubFile at.0 at.1) (find (λ at. nat_le (2 ^ 39) at.1) (enumerate_from 0 sizes))
+sub_file_limit_fault sizes =
+    option_map (λ at. LimitFault.SubFile at.0 at.1) (find (λ at. nat_le (2 ^ 39) at.1) (enumerate_from 0 sizes))
 
 -- the sizes of the sub-files, in bytes
 abbrev pub sub_file_sizes : HeadSettings → Rect → List Feature → List ℕ
@@ -68,24 +73,28 @@ sub_file_sizes set box features = map sub_file_size (all_contents set box featur
 
 -- the first tile, else the first sub-file that passes its limit
 unfoldable pub layout_fault : ℕ → HeadSettings → Rect → List Feature → Option LimitFault
-layout_fault limit set box features = option_or (tile_limit_fault limit set box features) (sub_file_limit_fault (sub_file_sizes set box features))
+layout_fault limit set box features =
+    option_or (tile_limit_fault limit set box features) (sub_file_limit_fault (sub_file_sizes set box features))
 
 -- the first candidate, else the first tile, else the first sub-file that passes its limit
 unfoldable pub limit_fault : ℕ → HeadSettings → Mapping → Rect → List Entity → Option LimitFault
-limit_fault limit set mapping box entities = option_or (candidate_fault limit mapping entities) (layout_fault limit set box (features mapping entities))
+limit_fault limit set mapping box entities =
+    option_or (candidate_fault limit mapping entities) (layout_fault limit set box (features mapping entities))
 
 -- ---- sizes
 
 -- nodes, refs and members of an input, and the weights of all candidates
 unfoldable pub shape_size : Mapping → List Entity → ℕ
 shape_size mapping entities =
-    length (nodes_of entities) + sum_by (λ w. length w.refs) (ways_of entities) + sum_by (λ r. length r.members) (relations_of entities)
+    length (nodes_of entities) + sum_by (λ w. length w.refs) (ways_of entities)
+    + sum_by (λ r. length r.members) (relations_of entities)
     + sum_by weight (candidates mapping entities)
 
 -- the size of a job: besides, the tiles of all intervals, and over each member of each tile its weight
 unfoldable pub job_size : HeadSettings → Mapping → Rect → List Entity → ℕ
 job_size set mapping box entities =
-    shape_size mapping entities + length (all_tiles set box) + sum_by (tile_weight (features mapping entities)) (all_tiles set box)
+    shape_size mapping entities + length (all_tiles set box) + sum_by (tile_weight (features mapping entities))
+    (all_tiles set box)
 
 -- ---- report
 
@@ -122,4 +131,5 @@ unfoldable pub report_line : Report → List ℕ
 report_line r =
     worded (codes "nodes") r.nodes ++ worded (codes " ways") r.ways ++ worded (codes " relations") r.relations
     ++ worded (codes " features") r.features ++ worded (codes " skipped") r.skipped ++ worded (codes " tiles") r.tiles
-    ++ worded (codes " water") r.water ++ worded (codes " bytes") r.bytes ++ worded (codes " largest") r.largest ++ 10 ∷ []
+    ++ worded (codes " water") r.water ++ worded (codes " bytes") r.bytes ++ worded (codes " largest") r.largest
+    ++ 10 ∷ []

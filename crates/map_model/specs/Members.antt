@@ -1,5 +1,7 @@
--- Which features are in a tile, and in which order: Mapsforge Specification, Binary Map File Format, version 5, on tile header, POIs and ways; the rest is this project's profile.
-use Rattle.std.specs.Prelude.{◌≡◌, ◌⊎◌, ℕ, ◌<◌, ◌≤◌, nat_le, ◌==◌, if◌then◌else◌, Bool, true, false, not, ◌&&◌, List, ◌++◌, filter, flat_map, sum_by, AllPairs}
+-- Which features are in a tile, and in which order: Mapsforge Specification, Binary Map File Format, version 5, on tile
+-- header, POIs and ways; the rest is this project's profile.
+use Rattle.std.specs.Prelude.{◌≡◌, ◌⊎◌, ℕ, ◌<◌, ◌≤◌, nat_le, ◌==◌, if◌then◌else◌, Bool, true, false, not, ◌&&◌, List}
+use Rattle.std.specs.Prelude.{◌++◌, filter, flat_map, sum_by, AllPairs}
 use Rattle.std.specs.List.{AllByRecursion}
 use Rattle.mf_base.specs.declared.kind.EntityKind.{EntityKind}
 use Rattle.mf_base.specs.declared.kind.EntityKind.TheVariants.{Node, Way, Relation}
@@ -26,7 +28,8 @@ is_way f = not (is_poi f)
 
 -- the features that meet the tile and whose zoom is at most the maximum
 unfoldable pub in_tile : TilePlace → List Feature → List Feature
-in_tile tile features = filter (λ f. nat_le f.zoom tile.interval.max && meets (rect_of f) tile.interval.base tile.x tile.y) features
+in_tile tile features =
+    filter (λ f. nat_le f.zoom tile.interval.max && meets (rect_of f) tile.interval.base tile.x tile.y) features
 
 -- those of one effective zoom
 abbrev pub of_zoom : Interval → ℕ → List Feature → List Feature
@@ -54,9 +57,11 @@ class_of f = if is_poi f then 0 else 1
 
 -- of two features the first has the smaller class, or the same class and no greater effective zoom
 abbrev pub StandsBefore : Interval → Feature → Feature → Type 0
-StandsBefore interval f g = (class_of f < class_of g) ⊎ ((class_of f ≡ class_of g) × (raised_zoom interval f.zoom ≤ raised_zoom interval g.zoom))
+StandsBefore interval f g = (class_of f < class_of g)
+    ⊎ ((class_of f ≡ class_of g) × (raised_zoom interval f.zoom ≤ raised_zoom interval g.zoom))
 
--- Features in the order of a tile: no zoom level is above the maximum, POIs stand before ways, and each of the two goes by effective zoom.
+-- Features in the order of a tile: no zoom level is above the maximum, POIs stand before ways, and each of the two goes
+-- by effective zoom.
 pub record StandInOrder (interval : Interval) (features : List Feature) : Type 0 where
   pub zooms : AllByRecursion (λ (f : Feature). f.zoom ≤ interval.max) features
   pub pairs : AllPairs (StandsBefore interval) features

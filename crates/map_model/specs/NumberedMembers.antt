@@ -1,5 +1,6 @@
 -- The members of tiles with their numbers, and the keys that order them: this project's own.
-use Rattle.std.specs.Prelude.{◌≡◌, ◌⊎◌, ℕ, ◌<◌, nat_le, ◌==◌, Bool, ◌&&◌, if◌then◌else◌, List, [], ◌∷◌, ◌++◌, map, filter, flat_map, Option, Some, None}
+use Rattle.std.specs.Prelude.{◌≡◌, ◌⊎◌, ℕ, ◌<◌, nat_le, ◌==◌, Bool, ◌&&◌, if◌then◌else◌, List, [], ◌∷◌, ◌++◌, map}
+use Rattle.std.specs.Prelude.{filter, flat_map, Option, Some, None}
 use Rattle.std.specs.List.{enumerate_from, AllByRecursion}
 use Rattle.mf_base.specs.declared.place.Rect.{Rect}
 use Rattle.mf_base.specs.declared.tile.Interval.{Interval}
@@ -30,7 +31,8 @@ by_zoom_by shown interval things = flat_map (λ zoom. of_zoom_by shown interval 
 
 -- first POIs, then ways, each by effective zoom, then in their order
 unfoldable pub in_tile_order_by : {R : Type 0} → (R → Feature) → Interval → List R → List R
-in_tile_order_by shown interval things = by_zoom_by shown interval (filter (λ r. is_poi (shown r)) things) ++ by_zoom_by shown interval (filter (λ r. is_way (shown r)) things)
+in_tile_order_by shown interval things = by_zoom_by shown interval (filter (λ r. is_poi (shown r)) things)
+    ++ by_zoom_by shown interval (filter (λ r. is_way (shown r)) things)
 
 -- The things that show the members of a tile, in the order of the members.
 unfoldable pub members_by : {R : Type 0} → (R → Feature) → List R → TilePlace → List R
@@ -66,7 +68,15 @@ IsKeyBelow k l = KeyBelow (key_numbers k) (key_numbers l)
 
 -- the key of a numbered feature in a tile
 abbrev pub key_in : TilePlace → ℕ × Feature → TileKey
-key_in tile at = record { index = tile.index; y = tile.y; x = tile.x; class = class_of at.1; zoom = raised_zoom tile.interval at.1.zoom; number = at.0 }
+key_in tile at =
+    record {
+      index = tile.index;
+      y = tile.y;
+      x = tile.x;
+      class = class_of at.1;
+      zoom = raised_zoom tile.interval at.1.zoom;
+      number = at.0;
+    }
 
 -- the keys of a tile's members, in their order
 unfoldable pub tile_keys : List Feature → TilePlace → List TileKey
@@ -88,11 +98,13 @@ shared_tiles box interval f = tiles_of_some (common (tile_rect box interval.base
 -- what a numbered feature puts in an interval: its key for each of these tiles, where its zoom is at most the maximum
 unfoldable pub interval_keys : Rect → ℕ → Interval → ℕ × Feature → List TileKey
 interval_keys box index interval at =
-    if nat_le at.1.zoom interval.max then map (λ xy. key_in (tile_place index interval xy) at) (shared_tiles box interval at.1) else []
+    if nat_le at.1.zoom interval.max then map (λ xy. key_in (tile_place index interval xy) at)
+    (shared_tiles box interval at.1) else []
 
 -- all keys that are put: for each interval, each feature
 unfoldable pub put_keys : HeadSettings → Rect → List Feature → List TileKey
-put_keys set box features = flat_map (λ i. flat_map (interval_keys box i.0 i.1) (enumerate_from 0 features)) (enumerate_from 0 set.intervals)
+put_keys set box features =
+    flat_map (λ i. flat_map (interval_keys box i.0 i.1) (enumerate_from 0 features)) (enumerate_from 0 set.intervals)
 
 -- the keys of all tiles, by interval, then y, then x
 abbrev pub all_keys : HeadSettings → Rect → List Feature → List TileKey

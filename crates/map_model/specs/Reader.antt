@@ -1,5 +1,6 @@
 -- Reading from left to right: a value and the bytes after it, or the first fault. This project's profile.
-use Rattle.std.specs.Prelude.{ℕ, zero, suc, ◌-◌, List, [], ◌∷◌, length, take, drop, nat_lt, Bool, true, false, Result, Ok, Err, Option, Some, None, if◌then◌else◌}
+use Rattle.std.specs.Prelude.{ℕ, zero, suc, ◌-◌, List, [], ◌∷◌, length, take, drop, nat_lt, Bool, true, false, Result}
+use Rattle.std.specs.Prelude.{Ok, Err, Option, Some, None, if◌then◌else◌}
 use Rattle.mf_base.specs.Steps.{◌>>=◌, require, told_as}
 use Rattle.byteorder.specs.Endian.{big_number}
 
@@ -36,7 +37,8 @@ with_rest bytes (Err e) = Err e
 
 -- so many bytes
 abbrev pub fixed : {Kind : Type 0} → Kind → ℕ → List ℕ → Read Kind (List ℕ)
-fixed short width bytes = if nat_lt (length bytes) width then Err (stop short bytes) else Ok (take width bytes, drop width bytes)
+fixed short width bytes =
+    if nat_lt (length bytes) width then Err (stop short bytes) else Ok (take width bytes, drop width bytes)
 
 -- a number of so many bytes, the highest first
 abbrev pub fixed_number : {Kind : Type 0} → Kind → ℕ → List ℕ → Read Kind ℕ

@@ -1,4 +1,5 @@
--- What may be written of a feature, so that it takes at most 16 bytes for each row that it weighs: this project's profile.
+-- What may be written of a feature, so that it takes at most 16 bytes for each row that it weighs: this project's
+-- profile.
 use Rattle.std.specs.Prelude.{ℕ, ◌+◌, ◌/◌, ◌≤◌, ◌<◌, ◌^◌, nat_abs, List, length, Option, IfSome, IsTrue}
 use Rattle.std.specs.List.{AllByRecursion}
 use Rattle.mf_base.specs.Texts.{Text}
@@ -21,7 +22,9 @@ IsShort text = length text ≤ 1020
 abbrev pub IsKeptShort : Kept → Type 0
 IsKeptShort k = (k.tag < 4096) × IfSome (kept_text k.value) IsShort
 
--- Of a feature that is written: at most fifteen tags with ids below 4,096, short texts, a height of at most five digits, places of 32 bits, and a weight of at least 10, one for each ring, one for each place and one for each begun 16 bytes of its texts.
+-- Of a feature that is written: at most fifteen tags with ids below 4,096, short texts, a height of at most five
+-- digits, places of 32 bits, and a weight of at least 10, one for each ring, one for each place and one for each begun
+-- 16 bytes of its texts.
 pub record IsWritable (f : Feature) : Type 0 where
   pub few : length f.tags ≤ 15
   pub kept : AllByRecursion IsKeptShort f.tags

@@ -1,5 +1,6 @@
 -- Features, tiles and maps of the worked rows.
-use Rattle.std.specs.Prelude.{ℕ, map, Bool, Some, ℤ, pos, negsuc, List, [], ◌∷◌, ◌++◌, None, true, false, codes, replicate}
+use Rattle.std.specs.Prelude.{ℕ, map, Bool, Some, ℤ, pos, negsuc, List, [], ◌∷◌, ◌++◌, None, true, false, codes}
+use Rattle.std.specs.Prelude.{replicate}
 use Rattle.mf_base.specs.declared.kind.EntityKind.{EntityKind}
 use Rattle.mf_base.specs.declared.kind.EntityKind.TheVariants.{Node, Way}
 use Rattle.mf_base.specs.declared.place.Place.{Place}
@@ -74,7 +75,8 @@ way_of places = record {
 
 -- a closed ring of five places
 abbrev pub garden_ring : Ring
-garden_ring = at_place (pos 0) (pos 0) ∷ at_place (pos 0) (pos 20) ∷ at_place (pos 10) (pos 20) ∷ at_place (pos 10) (pos 0) ∷ at_place (pos 0) (pos 0) ∷ []
+garden_ring = at_place (pos 0) (pos 0) ∷ at_place (pos 0) (pos 20) ∷ at_place (pos 10) (pos 20) ∷ at_place (pos 10)
+    (pos 0) ∷ at_place (pos 0) (pos 0) ∷ []
 
 -- a closed way of five places, with the label mark
 abbrev pub garden : Feature
@@ -82,7 +84,8 @@ garden = record (way_of garden_ring) { label = true }
 
 -- four places, each 1,000 microdegrees east of the last
 abbrev pub eastward : Ring
-eastward = at_place (pos 0) (pos 0) ∷ at_place (pos 0) (pos 1000) ∷ at_place (pos 0) (pos 2000) ∷ at_place (pos 0) (pos 3000) ∷ []
+eastward = at_place (pos 0) (pos 0) ∷ at_place (pos 0) (pos 1000) ∷ at_place (pos 0) (pos 2000) ∷ at_place (pos 0)
+    (pos 3000) ∷ []
 
 -- one interval of base zoom 0 up to a maximum, a date, and nothing optional
 abbrev pub settings_to : ℕ → HeadSettings
@@ -133,11 +136,28 @@ empty_map = degree_header (0x73 ∷ []) (0x05 ∷ 0x00 ∷ 0x00 ∷ 0x00 ∷ 0x0
 
 -- the bench as a reader sees it
 abbrev pub listed_bench : Listed
-listed_bench = poi (record { zoom = 5; layer = pos 0; place = at_place (pos 0) (pos 0); tags = ShownTag.plain (codes "amenity=bench") ∷ []; name = None; house = None; height = None })
+listed_bench = poi (record {
+  zoom = 5;
+  layer = pos 0;
+  place = at_place (pos 0) (pos 0);
+  tags = ShownTag.plain (codes "amenity=bench") ∷ [];
+  name = None;
+  house = None;
+  height = None;
+})
 
 -- a bench of zoom 17 with another tag
 abbrev pub valued_bench : ShownTag → Listed
-valued_bench tag = poi (record { zoom = 17; layer = pos 0; place = at_place (pos 0) (pos 0); tags = tag ∷ []; name = None; house = None; height = None })
+valued_bench tag =
+    poi (record {
+      zoom = 17;
+      layer = pos 0;
+      place = at_place (pos 0) (pos 0);
+      tags = tag ∷ [];
+      name = None;
+      house = None;
+      height = None;
+    })
 
 -- the one tile of base zoom 0, of an interval up to a zoom
 abbrev pub world_tile : ℕ → TilePlace
@@ -150,7 +170,8 @@ garden_tags = record { poi = []; way = codes "leisure=garden" ∷ [] }
 -- the garden as a way of the map
 abbrev pub garden_bytes : List ℕ
 garden_bytes =
-    0x1A ∷ 0x02 ∷ 0x20 ∷ 0x51 ∷ 0x00 ∷ 0x10 ∷ 0x05 ∷ 0x0A ∷ 0x01 ∷ 0x05 ∷ 0xF8 ∷ 0x8D ∷ 0xC7 ∷ 0x68 ∷ 0x80 ∷ 0xAA ∷ 0xEA ∷ 0xD5 ∷ 0x00
+    0x1A ∷ 0x02 ∷ 0x20 ∷ 0x51 ∷ 0x00 ∷ 0x10 ∷ 0x05 ∷ 0x0A ∷ 0x01 ∷ 0x05 ∷ 0xF8 ∷ 0x8D ∷ 0xC7 ∷ 0x68 ∷ 0x80 ∷ 0xAA ∷ 0xEA
+    ∷ 0xD5 ∷ 0x00
     ∷ 0x00 ∷ 0x14 ∷ 0x0A ∷ 0x00 ∷ 0x00 ∷ 0x54 ∷ 0x4A ∷ 0x00 ∷ []
 
 -- the tile of the garden: zoom levels 0 to 21, no POI, and one way of zoom 17
@@ -159,11 +180,23 @@ garden_tile = replicate 35 0 ++ 0x01 ∷ replicate 8 0 ++ 0x00 ∷ garden_bytes
 
 -- the report of the map of the bench
 abbrev pub bench_numbers : Report
-bench_numbers = record { nodes = 1; ways = 0; relations = 0; features = 1; skipped = 0; tiles = 1; water = 0; bytes = 144; largest = 11 }
+bench_numbers = record {
+  nodes = 1;
+  ways = 0;
+  relations = 0;
+  features = 1;
+  skipped = 0;
+  tiles = 1;
+  water = 0;
+  bytes = 144;
+  largest = 11;
+}
 
 -- a closed water way along the four sides of a rectangle
 abbrev pub lake : Feature
-lake = record (way_of (at_place (negsuc 4999999) (pos 5000000) ∷ at_place (pos 16000000) (pos 5000000) ∷ at_place (pos 16000000) (pos 28000000) ∷ at_place (negsuc 4999999) (pos 28000000) ∷ at_place (negsuc 4999999) (pos 5000000) ∷ [])) { water = true }
+lake = record (way_of (at_place (negsuc 4999999) (pos 5000000) ∷ at_place (pos 16000000) (pos 5000000) ∷ at_place
+    (pos 16000000) (pos 28000000) ∷ at_place (negsuc 4999999) (pos 28000000) ∷ at_place (negsuc 4999999)
+    (pos 5000000) ∷ [])) { water = true }
 
 -- a tile of zoom 5
 abbrev pub lake_tile : ℕ → ℕ → TilePlace
@@ -171,15 +204,18 @@ lake_tile x y = record { index = 0; interval = record { base = 5; min = 0; max =
 
 -- the places of the lake without its last
 abbrev pub open_lake : Feature
-open_lake = record (way_of (at_place (negsuc 4999999) (pos 5000000) ∷ at_place (pos 16000000) (pos 5000000) ∷ at_place (pos 16000000) (pos 28000000) ∷ at_place (negsuc 4999999) (pos 28000000) ∷ [])) { water = true }
+open_lake = record (way_of (at_place (negsuc 4999999) (pos 5000000) ∷ at_place (pos 16000000) (pos 5000000) ∷ at_place
+    (pos 16000000) (pos 28000000) ∷ at_place (negsuc 4999999) (pos 28000000) ∷ [])) { water = true }
 
 -- a ring of three places, and a smaller one within
 abbrev pub outer_ring : Ring
-outer_ring = at_place (pos 0) (pos 0) ∷ at_place (pos 0) (pos 20) ∷ at_place (pos 20) (pos 10) ∷ at_place (pos 0) (pos 0) ∷ []
+outer_ring = at_place (pos 0) (pos 0) ∷ at_place (pos 0) (pos 20) ∷ at_place (pos 20) (pos 10) ∷ at_place (pos 0)
+    (pos 0) ∷ []
 
 -- a ring within that one
 abbrev pub inner_ring : Ring
-inner_ring = at_place (pos 3) (pos 8) ∷ at_place (pos 3) (pos 12) ∷ at_place (pos 6) (pos 10) ∷ at_place (pos 3) (pos 8) ∷ []
+inner_ring = at_place (pos 3) (pos 8) ∷ at_place (pos 3) (pos 12) ∷ at_place (pos 6) (pos 10) ∷ at_place (pos 3)
+    (pos 8) ∷ []
 
 -- a feature of these blocks
 abbrev pub area_of : List Block → Feature
@@ -191,7 +227,11 @@ content water bytes = record { water = water; bytes = bytes }
 
 -- the default intervals
 abbrev pub three_intervals : List Interval
-three_intervals = record { base = 5; min = 0; max = 7 } ∷ record { base = 10; min = 8; max = 11 } ∷ record { base = 14; min = 12; max = 21 } ∷ []
+three_intervals = record { base = 5; min = 0; max = 7 } ∷ record { base = 10; min = 8; max = 11 } ∷ record {
+  base = 14;
+  min = 12;
+  max = 21;
+} ∷ []
 
 -- the box of the place (0, 0)
 abbrev pub origin_box : Rect
@@ -201,14 +241,16 @@ origin_box = record { min_lat = pos 0; min_lon = pos 0; max_lat = pos 0; max_lon
 abbrev pub eight : ℕ → List ℕ
 eight n = replicate 7 0 ++ n ∷ []
 
--- a header of these intervals with the tag of the bench, by its size after the size field, the size of its file, its flags and optional fields, and the starts of its sub-files
+-- a header of these intervals with the tag of the bench, by its size after the size field, the size of its file, its
+-- flags and optional fields, and the starts of its sub-files
 abbrev pub origin_header : ℕ → ℕ → List ℕ → ℕ → ℕ → ℕ → List ℕ
 origin_header size total options first second third =
     codes "mapsforge binary OSM" ++ 0 ∷ 0 ∷ 0 ∷ size ∷ 0 ∷ 0 ∷ 0 ∷ 5 ∷ eight total
     ++ 0x00 ∷ 0x00 ∷ 0x01 ∷ 0x8B ∷ 0xCF ∷ 0xE5 ∷ 0x68 ∷ 0x00 ∷ replicate 16 0
     ++ 0x01 ∷ 0x00 ∷ 0x08 ∷ codes "Mercator" ++ options
     ++ 0x00 ∷ 0x01 ∷ 0x0D ∷ codes "amenity=bench" ++ 0x00 ∷ 0x00
-    ∷ 0x03 ∷ 5 ∷ 0 ∷ 7 ∷ eight first ++ eight 5 ++ 10 ∷ 8 ∷ 11 ∷ eight second ++ eight 5 ++ 14 ∷ 12 ∷ 21 ∷ eight third ++ eight 31
+    ∷ 0x03 ∷ 5 ∷ 0 ∷ 7 ∷ eight first ++ eight 5 ++ 10 ∷ 8 ∷ 11 ∷ eight second ++ eight 5 ++ 14 ∷ 12 ∷ 21 ∷ eight third
+    ++ eight 31
 
 -- a tile in the middle of the world, of the third of these intervals; its corner is (0, 0)
 abbrev pub middle_tile : TilePlace
@@ -216,7 +258,11 @@ middle_tile = record { index = 2; interval = record { base = 14; min = 12; max =
 
 -- an interval of two tiles side by side, whose sub-file is the whole of a file of 13 bytes
 abbrev pub two_tiles : Band
-two_tiles = record { interval = record { base = 1; min = 1; max = 7 }; sub = record { start = 0; size = 13 }; span = record { z = 1; first_x = 0; last_x = 1; first_y = 0; last_y = 0 } }
+two_tiles = record {
+  interval = record { base = 1; min = 1; max = 7 };
+  sub = record { start = 0; size = 13 };
+  span = record { z = 1; first_x = 0; last_x = 1; first_y = 0; last_y = 0 };
+}
 
 -- its index, whose second offset is below the first, and three bytes
 abbrev pub two_tiles_file : List ℕ
@@ -224,7 +270,18 @@ two_tiles_file = 0x00 ∷ 0x00 ∷ 0x00 ∷ 0x00 ∷ 0x0C ∷ 0x00 ∷ 0x00 ∷ 
 
 -- the garden as a reader sees it, under these bits
 abbrev pub listed_garden : ℕ → ListedWay
-listed_garden bits = record { zoom = 17; layer = pos 0; bits = bits; tags = ShownTag.plain (codes "leisure=garden") ∷ []; name = None; house = None; reference = None; label = Some (at_place (pos 5) (pos 10)); blocks = (garden_ring ∷ []) ∷ [] }
+listed_garden bits =
+    record {
+      zoom = 17;
+      layer = pos 0;
+      bits = bits;
+      tags = ShownTag.plain (codes "leisure=garden") ∷ [];
+      name = None;
+      house = None;
+      reference = None;
+      label = Some (at_place (pos 5) (pos 10));
+      blocks = (garden_ring ∷ []) ∷ [];
+    }
 
 -- five benches at one place, and one of zoom 9
 abbrev pub five_benches : List Entity
@@ -244,4 +301,5 @@ numbered kind id zoom = record bench { kind = kind; id = id; zoom = zoom }
 
 -- places to and fro, which take fewer bytes under single delta
 abbrev pub zigzag : Ring
-zigzag = at_place (pos 0) (pos 0) ∷ at_place (pos 0) (pos 50) ∷ at_place (pos 0) (pos 0) ∷ at_place (pos 0) (pos 50) ∷ at_place (pos 0) (pos 0) ∷ []
+zigzag = at_place (pos 0) (pos 0) ∷ at_place (pos 0) (pos 50) ∷ at_place (pos 0) (pos 0) ∷ at_place (pos 0)
+    (pos 50) ∷ at_place (pos 0) (pos 0) ∷ []

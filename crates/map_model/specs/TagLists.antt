@@ -1,4 +1,5 @@
--- The tags of a header, of which features name the places: Mapsforge Specification, Binary Map File Format, version 5, on the file header.
+-- The tags of a header, of which features name the places: Mapsforge Specification, Binary Map File Format, version 5,
+-- on the file header.
 use Rattle.std.specs.Prelude.{ℕ, [], ◌∷◌, ◌==◌, List, ◌++◌, map, slice_index_or}
 use Rattle.std.specs.List.{before_first, after_first}
 use Rattle.mf_base.specs.Texts.{Text}

@@ -1,4 +1,5 @@
--- The bytes of features in a tile: Mapsforge Specification, Binary Map File Format, version 5, on tile header, POIs and ways; the choices are this project's profile.
+-- The bytes of features in a tile: Mapsforge Specification, Binary Map File Format, version 5, on tile header, POIs and
+-- ways; the choices are this project's profile.
 use Rattle.std.specs.Prelude.{ℕ, nat_lt, Bool, true, false, List, [], ◌∷◌, map, filter, sum_by, length}
 use Rattle.mf_base.specs.declared.place.Place.{Place}
 use Rattle.mf_base.specs.declared.tile.TilePlace.{TilePlace}
@@ -9,11 +10,20 @@ use Rattle.map_model.specs.Members.{is_poi, is_way, of_zoom}
 use Rattle.map_model.specs.Intervals.{zooms}
 use Rattle.map_model.specs.Bitmap.{sub_tile_bits}
 use Rattle.map_model.specs.Labels.{label_place}
-use Rattle.map_model.specs.Layout.{PoiFields, WayFields, Level, coordinate_bytes, poi_fields_bytes, way_fields_bytes, levels_bytes}
+use Rattle.map_model.specs.Layout.{PoiFields, WayFields, Level, coordinate_bytes, poi_fields_bytes, way_fields_bytes}
+use Rattle.map_model.specs.Layout.{levels_bytes}
 
 -- what is written of a POI
 unfoldable pub poi_fields : Feature → PoiFields
-poi_fields f = record { place = first_place (places_of f); layer = f.layer; tags = f.tags; other = 0; name = f.name; house = f.house; height = f.height }
+poi_fields f = record {
+  place = first_place (places_of f);
+  layer = f.layer;
+  tags = f.tags;
+  other = 0;
+  name = f.name;
+  house = f.house;
+  height = f.height;
+}
 
 -- a POI in a tile with this corner
 unfoldable pub poi_bytes : Place → Feature → List ℕ

@@ -1,5 +1,8 @@
--- Reading a tile, with its first fault: Mapsforge Specification, Binary Map File Format, version 5, on tile header, POIs and ways; the faults are this project's profile.
-use Rattle.std.specs.Prelude.{◌≡◌, ℕ, zero, suc, ◌+◌, ◌-◌, ◌/◌, ◌%◌, ◌^◌, ◌<◌, ◌≤◌, nat_lt, nat_le, ◌==◌, if◌then◌else◌, Bool, true, false, IsTrue, ℤ, pos, negsuc, ◌+ℤ◌, ◌-ℤ◌, List, [], ◌∷◌, map, zip, length, take, drop, Option, IfSome, Result, Ok}
+-- Reading a tile, with its first fault: Mapsforge Specification, Binary Map File Format, version 5, on tile header,
+-- POIs and ways; the faults are this project's profile.
+use Rattle.std.specs.Prelude.{◌≡◌, ℕ, zero, suc, ◌+◌, ◌-◌, ◌/◌, ◌%◌, ◌^◌, ◌<◌, ◌≤◌, nat_lt, nat_le, ◌==◌, if◌then◌else◌}
+use Rattle.std.specs.Prelude.{Bool, true, false, IsTrue, ℤ, pos, negsuc, ◌+ℤ◌, ◌-ℤ◌, List, [], ◌∷◌, map, zip, length}
+use Rattle.std.specs.Prelude.{take, drop, Option, IfSome, Result, Ok}
 use Rattle.std.specs.List.{AllByRecursion}
 use Rattle.std.specs.Str.{is_utf8}
 use Rattle.std.specs.Int.{w8, w16, w32, cast_signed}
@@ -21,7 +24,8 @@ use Rattle.map_model.specs.Layout.{PoiFields, WayFields, Level, step, levels_byt
 use Rattle.map_model.specs.TileBytes.{tile_corner}
 use Rattle.map_model.specs.Listed.{Listed, shown_levels}
 use Rattle.map_model.specs.TagLists.{TagLists, tag_kind, tag_at}
-use Rattle.map_model.specs.Reader.{Stop, with_place, Read, want, or_stop, with_rest, fixed_number, times, read_each, where_set}
+use Rattle.map_model.specs.Reader.{Stop, with_place, Read, want, or_stop, with_rest, fixed_number, times, read_each}
+use Rattle.map_model.specs.Reader.{where_set}
 
 -- a kind of fault at a place of a tile
 abbrev pub tile_fault_at : ℕ → TileKind → TileFault
@@ -126,7 +130,18 @@ poi_at tags corner bytes = do
   name ← where_set (has_flag flags.0 0x80) tile_text_at flags.1
   house ← where_set (has_flag flags.0 0x40) tile_text_at name.1
   height ← where_set (has_flag flags.0 0x20) (ranged (pos 0)) house.1
-  Ok (record { place = place.0; layer = layer.0.0; tags = kept.0; other = flags.0 % 32; name = name.0; house = house.0; height = height.0 }, height.1)
+  Ok (
+    record {
+      place = place.0;
+      layer = layer.0.0;
+      tags = kept.0;
+      other = flags.0 % 32;
+      name = name.0;
+      house = house.0;
+      height = height.0;
+    },
+    height.1,
+  )
 
 -- ---- way
 
@@ -182,7 +197,8 @@ two_signed bytes = do
   lon ← signed lat.1
   Ok ((lat.0, lon.0), lon.1)
 
--- The label's numbers are read in their place; whether its place is in range is known with the first place of the first ring,
+-- The label's numbers are read in their place; whether its place is in range is known with the first place of the first
+-- ring,
 -- and then it comes before what stands behind that place.
 unfoldable pub label_and_blocks_at : Place → ℕ → List ℕ → Read TileKind (Option Place × List Block)
 label_and_blocks_at corner flags bytes = do
@@ -261,7 +277,8 @@ shown_at names interval corner (b ∷ bytes) = do
 
 -- the records of a tile with this corner, or the first field without a spelling
 unfoldable pub read_tile_from : Place → TagLists → Interval → List ℕ → Result (List Listed) TileFault
-read_tile_from corner names interval bytes = with_place tile_fault_at (length bytes) (shown_at names interval corner bytes)
+read_tile_from corner names interval bytes =
+    with_place tile_fault_at (length bytes) (shown_at names interval corner bytes)
 
 -- the records of a tile in order, or the first field without a spelling
 unfoldable pub read_tile : TagLists → TilePlace → List ℕ → Result (List Listed) TileFault
@@ -326,7 +343,8 @@ pub record IsLevel (names : TagLists) (level : Level) : Type 0 where
   pub counts : (length level.pois < 2 ^ 63) × (length level.ways < 2 ^ 63)
 
 -- the bytes are a tile that tells these levels, one for read_each zoom level of the interval
-pub record SpellsLevels (names : TagLists) (interval : Interval) (corner : Place) (bytes : List ℕ) (levels : List Level) : Type 0 where
+pub record SpellsLevels (names : TagLists) (interval : Interval) (corner : Place) (bytes : List ℕ)
+    (levels : List Level) : Type 0 where
   pub each : AllByRecursion (IsLevel names) levels
   pub all : length levels ≡ length (zooms interval)
   pub spelt : bytes ≡ levels_bytes corner levels
@@ -336,4 +354,5 @@ pub record SpellsLevels (names : TagLists) (interval : Interval) (corner : Place
 abbrev pub ReadsTile : TagLists → TilePlace → List ℕ → List Listed → Type 0
 ReadsTile names tile [] shown = shown ≡ []
 ReadsTile names tile (b ∷ bytes) shown =
-    (levels : List Level) × SpellsLevels names tile.interval (tile_corner tile) (b ∷ bytes) levels × (shown ≡ shown_levels names tile.interval levels)
+    (levels : List Level) × SpellsLevels names tile.interval (tile_corner tile) (b ∷ bytes) levels
+    × (shown ≡ shown_levels names tile.interval levels)

@@ -1,5 +1,7 @@
--- Rectangles of tiles, and which tiles a rectangle meets: Mapsforge Specification, Binary Map File Format, version 5, on tiles; the rest is this project's profile.
-use Rattle.std.specs.Prelude.{ℕ, suc, ◌+◌, ◌-◌, ◌*◌, ◌^◌, ◌<◌, ◌≤◌, max, min, nat_le, if◌then◌else◌, Bool, ◌&&◌, List, map, flat_map, Option, Some, None}
+-- Rectangles of tiles, and which tiles a rectangle meets: Mapsforge Specification, Binary Map File Format, version 5,
+-- on tiles; the rest is this project's profile.
+use Rattle.std.specs.Prelude.{ℕ, suc, ◌+◌, ◌-◌, ◌*◌, ◌^◌, ◌<◌, ◌≤◌, max, min, nat_le, if◌then◌else◌, Bool, ◌&&◌, List}
+use Rattle.std.specs.Prelude.{map, flat_map, Option, Some, None}
 use Rattle.std.specs.List.{range_with_len}
 use Rattle.mf_base.specs.declared.place.Rect.{Rect}
 use Rattle.mf_base.specs.declared.tile.TileRect.{TileRect}
@@ -7,7 +9,14 @@ use Rattle.map_model.specs.Mercator.{row, column}
 
 -- the tiles at zoom z that a rectangle meets
 unfoldable pub tile_rect : Rect → ℕ → TileRect
-tile_rect rect z = record { z = z; first_x = column z rect.min_lon; last_x = column z rect.max_lon; first_y = row z rect.max_lat; last_y = row z rect.min_lat }
+tile_rect rect z =
+    record {
+      z = z;
+      first_x = column z rect.min_lon;
+      last_x = column z rect.max_lon;
+      first_y = row z rect.max_lat;
+      last_y = row z rect.min_lat;
+    }
 
 -- a rectangle of tiles: each first is at most its last, and each last is below 2^z
 pub record IsTileRect (t : TileRect) : Type 0 where
@@ -23,7 +32,13 @@ has_tile t x y = nat_le t.first_x x && nat_le x t.last_x && nat_le t.first_y y &
 -- the tiles that are in both of two rectangles of one zoom, or None where no tile is
 unfoldable pub common : TileRect → TileRect → Option TileRect
 common a b =
-    let both : TileRect = record { z = a.z; first_x = max a.first_x b.first_x; last_x = min a.last_x b.last_x; first_y = max a.first_y b.first_y; last_y = min a.last_y b.last_y } in
+    let both : TileRect = record {
+      z = a.z;
+      first_x = max a.first_x b.first_x;
+      last_x = min a.last_x b.last_x;
+      first_y = max a.first_y b.first_y;
+      last_y = min a.last_y b.last_y;
+    } in
     if nat_le both.first_x both.last_x && nat_le both.first_y both.last_y then Some both else None
 
 -- a rectangle meets tile (z, x, y)

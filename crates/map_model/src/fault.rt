@@ -1,4 +1,5 @@
-//! Why a header or a tile of a map is refused. (Mapsforge Specification, Binary Map File Format, version 5; the causes are this project's profile.)
+//! Why a header or a tile of a map is refused. (Mapsforge Specification, Binary Map File Format, version 5; the causes
+//! are this project's profile.)
 
 use thiserror::Error;
 
@@ -35,7 +36,8 @@ pub enum HeaderKind {
     /// A tag's value is `%f`.
     #[error("kind")]
     Kind,
-    /// There is no interval, a minimum is above its maximum, a base is above 16, or a sub-file does not lie in the file behind the header.
+    /// There is no interval, a minimum is above its maximum, a base is above 16, or a sub-file does not lie in the file
+    /// behind the header.
     #[error("interval")]
     Interval,
 }

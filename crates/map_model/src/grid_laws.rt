@@ -6,7 +6,8 @@ ghost use Rattle.mf_base.specs.Ranges.{is_rect};
 ghost use Rattle.map_model.specs.Mercator.{row, column};
 ghost use Rattle.map_model.specs.TileRects.{tile_rect, IsTileRect};
 
-/// The further north, the smaller the row; the further east, the greater the column. Both lie below 2^z, and so do the tiles of a rectangle on the earth.
+/// The further north, the smaller the row; the further east, the greater the column. Both lie below 2^z, and so do the
+/// tiles of a rectangle on the earth.
 #[tactic(auto, using(crate::proofs::RowLaws::row_laws))]
 pub fn rows_and_columns()
     ensures row { (z : ℕ) (a b : ℤ) → int_le a b ≡ true → row z b ≤ row z a }

@@ -1,6 +1,8 @@
 //! Laws of the definitions.
 
-ghost use Rattle.std.specs.Prelude.{◌≡◌, ◌↔◌, IsTrue, not, slice_get, Some, None, ◌==◌, flat_map, count_by, filter, ℕ, ℤ, Bool, ◌≤◌, ◌<◌, ◌*◌, ◌^◌, ◌≤ℤ◌, int_le, true, false, pos, negsuc, List, [], ◌∷◌, ◌++◌, length, map, Ok};
+ghost use Rattle.std.specs.Prelude.{◌≡◌, ◌↔◌, IsTrue, not, slice_get, Some, None, ◌==◌, flat_map, count_by, filter, ℕ};
+ghost use Rattle.std.specs.Prelude.{ℤ, Bool, ◌≤◌, ◌<◌, ◌*◌, ◌^◌, ◌≤ℤ◌, int_le, true, false, pos, negsuc, List, [], ◌∷◌};
+ghost use Rattle.std.specs.Prelude.{◌++◌, length, map, Ok};
 ghost use Rattle.std.specs.List.{AllByRecursion};
 ghost use Rattle.byteorder.specs.Endian.{big_number};
 ghost use Rattle.mf_base.specs.declared.place.Rect.{Rect};
@@ -41,26 +43,36 @@ pub fn one_tile_of_zoom_0()
     ensures meets { (rect : Rect) → meets rect 0 0 0 ≡ true }
 {}
 
-/// The bytes of a tile whose members stand in order are the zoom table, the first-way offset, the POIs and the ways, and tell each member.
+/// The bytes of a tile whose members stand in order are the zoom table, the first-way offset, the POIs and the ways,
+/// and tell each member.
 #[tactic(auto, using(crate::proofs::LevelLemmas::level_laws))]
 pub fn tile_tells_its_members()
     ensures flat { (tile : TilePlace) (f : Feature) (fs : List Feature) → f ∷ fs ≡ in_tile_order tile.interval (f ∷ fs)
-        → tile_bytes tile (f ∷ fs) ≡ flat_map (λ zoom. vbe_unsigned (count_by (λ g. raised_zoom tile.interval g.zoom == zoom) (filter is_poi (f ∷ fs))) ++ vbe_unsigned (count_by (λ g. raised_zoom tile.interval g.zoom == zoom) (filter is_way (f ∷ fs)))) (zooms tile.interval)
+        → tile_bytes tile (f ∷ fs)
+        ≡ flat_map (λ zoom.
+        vbe_unsigned (count_by (λ g. raised_zoom tile.interval g.zoom == zoom) (filter is_poi (f ∷ fs)))
+        ++ vbe_unsigned (count_by (λ g. raised_zoom tile.interval g.zoom == zoom) (filter is_way (f ∷ fs))))
+        (zooms tile.interval)
         ++ sized (flat_map (poi_bytes (tile_corner tile)) (filter is_poi (f ∷ fs)))
         ++ flat_map (λ g. way_bytes (tile_corner tile) (sub_tile_bits g tile) g) (filter is_way (f ∷ fs)) }
     ensures shown { (tags : TagLists) (tile : TilePlace) (fs : List Feature) → fs ≡ in_tile_order tile.interval fs
         → shown_levels tags tile.interval (written_levels tile fs) ≡ map (listed tags tile) fs }
-    ensures in_tile_order { (features : List Feature) (tile : TilePlace) → members features tile ≡ in_tile_order tile.interval (members features tile) }
+    ensures in_tile_order { (features : List Feature) (tile : TilePlace)
+        → members features tile ≡ in_tile_order tile.interval (members features tile) }
 {}
 
-/// The tiles of a rectangle stand at their places in its list, and a tile is common to two rectangles exactly where it is in both.
+/// The tiles of a rectangle stand at their places in its list, and a tile is common to two rectangles exactly where it
+/// is in both.
 #[tactic(auto, using(crate::proofs::TileLaws::tile_laws))]
 pub fn tiles_in_order()
     ensures count { (t : TileRect) → length (tiles_of t) ≡ tile_count t }
-    ensures place { (t : TileRect) (x y : ℕ) → IsTrue (has_tile t x y) → slice_get (tiles_of t) (entry_place t x y) ≡ Some (x, y) }
-    ensures common { (a b t : TileRect) → common a b ≡ Some t → (x y : ℕ) → IsTrue (has_tile t x y) ↔ (IsTrue (has_tile a x y) × IsTrue (has_tile b x y)) }
+    ensures place { (t : TileRect) (x y : ℕ) → IsTrue (has_tile t x y)
+        → slice_get (tiles_of t) (entry_place t x y) ≡ Some (x, y) }
+    ensures common { (a b t : TileRect) → common a b ≡ Some t → (x y : ℕ) → IsTrue (has_tile t x y)
+        ↔ (IsTrue (has_tile a x y) × IsTrue (has_tile b x y)) }
     ensures some { (a b t : TileRect) → common a b ≡ Some t → IsTrue (has_tile t t.first_x t.first_y) }
-    ensures none { (a b : TileRect) → common a b ≡ None → (x y : ℕ) → IsTrue (has_tile a x y) → IsTrue (has_tile b x y) → ⊥ }
+    ensures none { (a b : TileRect) → common a b ≡ None → (x y : ℕ) → IsTrue (has_tile a x y) → IsTrue (has_tile b x y)
+        → ⊥ }
 {}
 
 /// An entry's key and value are read again from its text in the header.
@@ -73,7 +85,8 @@ pub fn entry_is_read_again()
 /// The sizes that offsets and starts are counted with are those of the bytes, and an entry of the index is read again.
 #[tactic(auto, using(crate::proofs::SizeLemmas::size_laws))]
 pub fn sizes()
-    ensures header { (set : HeadSettings) (box : Rect) (names : TagLists) (subs : List SubFile) → length subs ≡ length set.intervals
+    ensures header { (set : HeadSettings) (box : Rect) (names : TagLists) (subs : List SubFile)
+        → length subs ≡ length set.intervals
         → length (header_bytes set box names subs) ≡ header_size set names }
     ensures sub_file { (tiles : List TileContent) → length (sub_file_of tiles) ≡ sub_file_size tiles }
     ensures index { (tiles : List TileContent) → length (index_bytes tiles) ≡ 5 * length tiles }
@@ -81,12 +94,15 @@ pub fn sizes()
         → index_entry_of (big_number 5 (entry_bytes water offset ++ rest)) ≡ record { water = water; offset = offset } }
 {}
 
-/// A tile that spells some records is read as these, so it spells no others; and a tile of members is read as what is listed of them.
+/// A tile that spells some records is read as these, so it spells no others; and a tile of members is read as what is
+/// listed of them.
 #[tactic(auto, using(crate::proofs::RecordsAgain::reading_laws))]
 pub fn tile_is_read_again()
-    ensures read { (names : TagLists) (tile : TilePlace) (bytes : List ℕ) (shown : List Listed) → tile.x < 2 ^ tile.interval.base
+    ensures read { (names : TagLists) (tile : TilePlace) (bytes : List ℕ) (shown : List Listed)
+        → tile.x < 2 ^ tile.interval.base
         → ReadsTile names tile bytes shown → read_tile names tile bytes ≡ Ok shown }
-    ensures members { (names : TagLists) (tile : TilePlace) (f : Feature) (fs : List Feature) → tile.x < 2 ^ tile.interval.base
+    ensures members { (names : TagLists) (tile : TilePlace) (f : Feature) (fs : List Feature)
+        → tile.x < 2 ^ tile.interval.base
         → f ∷ fs ≡ in_tile_order tile.interval (f ∷ fs)
         → AllByRecursion (IsLevel names) (written_levels tile (f ∷ fs)) → length (tile_bytes tile (f ∷ fs)) < 2 ^ 63
         → read_tile names tile (tile_bytes tile (f ∷ fs)) ≡ Ok (map (listed names tile) (f ∷ fs)) }

@@ -1,6 +1,7 @@
 //! What a finished run tells.
 
-/// The entities of the input by kind, features and skipped candidates, tiles with members and with the water bit, the bytes of the map, and the greatest weight of a candidate or a tile, in rows.
+/// The entities of the input by kind, features and skipped candidates, tiles with members and with the water bit, the
+/// bytes of the map, and the greatest weight of a candidate or a tile, in rows.
 #[derive(Clone, Copy, Debug, PartialEq, Eq)]
 pub struct Report {
     pub nodes: u64,

@@ -18,27 +18,34 @@ ghost use Rattle.map_model.specs.TileReading.{IsPlaceOf32Bits};
 #[tactic(auto, using(crate::proofs::Widths::ring_laws))]
 pub fn room_of_rings()
     ensures place { (a b : Place) → IsPlaceOf32Bits a → IsPlaceOf32Bits b → length (step_bytes (step a b)) ≤ 10 }
-    ensures places { (corner : Place) (double : Bool) (ring : Ring) → IsPlaceOf32Bits corner → AllByRecursion IsPlaceOf32Bits ring → length (coordinate_bytes corner double ring) ≤ 10 * length ring }
-    ensures ring { (corner : Place) (double : Bool) (ring : Ring) → IsPlaceOf32Bits corner → AllByRecursion IsPlaceOf32Bits ring → length ring < 2 ^ 35
+    ensures places { (corner : Place) (double : Bool) (ring : Ring) → IsPlaceOf32Bits corner
+        → AllByRecursion IsPlaceOf32Bits ring → length (coordinate_bytes corner double ring) ≤ 10 * length ring }
+    ensures ring { (corner : Place) (double : Bool) (ring : Ring) → IsPlaceOf32Bits corner
+        → AllByRecursion IsPlaceOf32Bits ring → length ring < 2 ^ 35
         → length (ring_bytes corner double ring) ≤ 5 + 10 * length ring }
 {}
 
-/// Beside the bytes of its texts the tags of a feature take at most 91 bytes, and a POI takes at most 16 bytes for each row that it weighs.
+/// Beside the bytes of its texts the tags of a feature take at most 91 bytes, and a POI takes at most 16 bytes for each
+/// row that it weighs.
 #[tactic(auto, using(crate::proofs::FeatureRoom::feature_laws))]
 pub fn room_of_features()
-    ensures tags { (layer : ℤ) (tags : List Kept) → length tags ≤ 15 → AllByRecursion IsKeptShort tags → length (tag_bytes layer tags) ≤ 91 + kept_size tags }
-    ensures poi { (corner : Place) (f : Feature) → IsPlaceOf32Bits corner → IsWritable f → length (poi_bytes corner f) ≤ 16 * f.weight }
+    ensures tags { (layer : ℤ) (tags : List Kept) → length tags ≤ 15 → AllByRecursion IsKeptShort tags
+        → length (tag_bytes layer tags) ≤ 91 + kept_size tags }
+    ensures poi { (corner : Place) (f : Feature) → IsPlaceOf32Bits corner → IsWritable f
+        → length (poi_bytes corner f) ≤ 16 * f.weight }
 {}
 
 /// A way takes at most 16 bytes for each row that it weighs, whatever its bitmap.
 #[tactic(auto, using(crate::proofs::WayRoom::way_laws))]
 pub fn room_of_ways()
-    ensures { (corner : Place) (bits : ℕ) (f : Feature) → IsPlaceOf32Bits corner → IsWritable f → length (way_bytes corner bits f) ≤ 16 * f.weight }
+    ensures { (corner : Place) (bits : ℕ) (f : Feature) → IsPlaceOf32Bits corner → IsWritable f
+        → length (way_bytes corner bits f) ≤ 16 * f.weight }
 {}
 
 /// A tile whose members weigh at most 16,777,216 rows takes at most 16 bytes for each row and 256.
 #[tactic(auto, using(crate::proofs::TileRoom::tile_laws))]
 pub fn room_of_a_tile()
-    ensures { (tile : TilePlace) (fs : List Feature) → tile.x < 2 ^ tile.interval.base → tile.interval.max ≤ 21 → fs ≡ in_tile_order tile.interval fs → AllByRecursion IsWritable fs → weight_of_tile fs ≤ rows_limit
+    ensures { (tile : TilePlace) (fs : List Feature) → tile.x < 2 ^ tile.interval.base → tile.interval.max ≤ 21
+        → fs ≡ in_tile_order tile.interval fs → AllByRecursion IsWritable fs → weight_of_tile fs ≤ rows_limit
         → length (tile_bytes tile fs) ≤ 16 * weight_of_tile fs + 256 }
 {}

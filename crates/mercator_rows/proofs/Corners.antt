@@ -1,5 +1,6 @@
 -- The northern edge of a row stands in the table.
-use Rattle.std.proofs.Common.{◌≡◌, ℕ, zero, suc, ◌+◌, ◌-◌, ◌*◌, ◌%◌, ◌^◌, ◌<◌, ◌≤◌, List, [], ◌∷◌, ◌++◌, length, get_or, inl, inr, refl, sym, ap, ◌∙◌, arith, w32}
+use Rattle.std.proofs.Common.{◌≡◌, ℕ, zero, suc, ◌+◌, ◌-◌, ◌*◌, ◌%◌, ◌^◌, ◌<◌, ◌≤◌, List, [], ◌∷◌, ◌++◌, length, get_or}
+use Rattle.std.proofs.Common.{inl, inr, refl, sym, ap, ◌∙◌, arith, w32}
 use Rattle.std.specs.Prelude.{ℤ, pos, negsuc, neg_ℤ, nat_abs, min, ◌-ℤ◌}
 use Rattle.std.specs.Int.{cast_signed, cast_unsigned}
 use Rattle.std.proofs.lemmas.Bool.{cases_lt, le-leb, lt-leb, lt-ltb}
@@ -16,7 +17,8 @@ use Rattle.mercator_rows.proofs.Signed.{again_32}
 -- the finest row at which a row begins
 pub first_fine_row : (z y : ℕ) → z ≤ 18 → y < 2 ^ z → y * 2 ^ (18 - z) < 2 ^ 18
 first_fine_row z y le below =
-    let whole : 2 ^ z * 2 ^ (18 - z) ≡ 2 ^ 18 = sym (pow-add 2 z (18 - z)) ∙ ap (λ (e : ℕ). 2 ^ e) {x = z + (18 - z)} {y = 18} (omega (arith, le)) in
+    let whole : 2 ^ z * 2 ^ (18 - z) ≡ 2 ^ 18 =
+    sym (pow-add 2 z (18 - z)) ∙ ap (λ (e : ℕ). 2 ^ e) {x = z + (18 - z)} {y = 18} (omega (arith, le)) in
     let rows = mul-le-mul_right (2 ^ (18 - z)) below in
     let some = one-le-pow (18 - z) 2 (omega arith) in
     omega (arith, whole, rows, some)
@@ -31,7 +33,8 @@ north_lat-zero = refl
 
 -- no edge is north of the first
 pub north_lat-le : (k : ℕ) → north_lat k ≤ 85051128
-north_lat-le k = let falls = north_lat-falls 0 k (omega arith) in let top = north_lat-zero ∙ raw_pole in omega (arith, falls, top)
+north_lat-le k = let falls = north_lat-falls 0 k (omega arith) in let top =
+    north_lat-zero ∙ raw_pole in omega (arith, falls, top)
 
 zero-minus : (n : ℕ) → pos 0 -ℤ pos n ≡ neg_ℤ (pos n)
 zero-minus zero = refl
@@ -39,7 +42,8 @@ zero-minus (suc n) = rw (lt-ltb 0 (suc n) (omega arith)) (ap negsuc (omega arith
 
 -- south of the equator the edge is that of the mirrored row
 pub mirrored : (n : ℕ) (e : ℤ) → n < 2 ^ 31 → e ≡ pos n → pos 0 -ℤ cast_signed w32 (cast_unsigned w32 e) ≡ neg_ℤ (pos n)
-mirrored n e small is = ap (λ (z : ℤ). pos 0 -ℤ z) (ap (λ (z : ℤ). cast_signed w32 (cast_unsigned w32 z)) is ∙ again_32 (pos n) small) ∙ zero-minus n
+mirrored n e small is = ap (λ (z : ℤ). pos 0 -ℤ z) (ap (λ (z : ℤ). cast_signed w32 (cast_unsigned w32 z)) is
+    ∙ again_32 (pos n) small) ∙ zero-minus n
 
 pub mirrored-small : (n : ℕ) → n < 2 ^ 31 → nat_abs (neg_ℤ (pos n)) < 2 ^ 31
 mirrored-small n small = omega (arith, small, nat_abs-neg (pos n))
@@ -48,7 +52,8 @@ pub corner_lat-north : (z y : ℕ) → y * 2 ^ (18 - z) ≤ 131072 → corner_la
 unfolding corner_lat
 corner_lat-north z y le = rw (le-leb (y * 2 ^ (18 - z)) 131072 le) refl
 
-pub corner_lat-south : (z y : ℕ) → 131072 < y * 2 ^ (18 - z) → corner_lat z y ≡ neg_ℤ (pos (north_lat (262144 - y * 2 ^ (18 - z))))
+pub corner_lat-south : (z y : ℕ) → 131072 < y * 2 ^ (18 - z)
+    → corner_lat z y ≡ neg_ℤ (pos (north_lat (262144 - y * 2 ^ (18 - z))))
 unfolding corner_lat
 corner_lat-south z y lt = rw (lt-leb (y * 2 ^ (18 - z)) 131072 lt) refl
 
@@ -61,10 +66,12 @@ first_edge = rw (north_lat-zero, raw_pole) refl
 -- the next edge
 pub next_edge : (k : ℕ) → min (north_lat k) (raw_lat (131072 - (k + 1))) ≡ north_lat (k + 1)
 unfolding north_lat least
-next_edge k = ap (λ j. min (north_lat k) (raw_lat (131072 - j))) {x = k + 1} {y = suc k} (omega arith) ∙ ap north_lat {x = suc k} {y = k + 1} (omega arith)
+next_edge k = ap (λ j. min (north_lat k) (raw_lat (131072 - j))) {x = k + 1} {y = suc k} (omega arith)
+    ∙ ap north_lat {x = suc k} {y = k + 1} (omega arith)
 
 -- one more number of a list that is known by its places
-pub pushed : (f : ℕ → ℕ) (xs : List ℕ) (x k : ℕ) → length xs ≡ k → ((j : ℕ) → j < k → get_or xs j 0 ≡ f j) → x ≡ f k → (j : ℕ) → j < k + 1 → get_or (xs ++ x ∷ []) j 0 ≡ f j
+pub pushed : (f : ℕ → ℕ) (xs : List ℕ) (x k : ℕ) → length xs ≡ k → ((j : ℕ) → j < k → get_or xs j 0 ≡ f j) → x ≡ f k
+    → (j : ℕ) → j < k + 1 → get_or (xs ++ x ∷ []) j 0 ≡ f j
 pushed f xs x k count each is j lt = elim (cases_lt j k) [
   | inl less ↦ get_or_append_left xs (x ∷ []) 0 j (omega (arith, less, count)) ∙ each j less
   | inr ge ↦

@@ -1,5 +1,6 @@
 -- The scale of a latitude, from its highest bit down; and bounds of what is computed of it.
-use Rattle.std.proofs.Common.{◌≡◌, ℕ, zero, suc, ◌+◌, ◌-◌, ◌*◌, ◌/◌, ◌%◌, ◌^◌, ◌<◌, ◌≤◌, List, [], ◌∷◌, ◌++◌, get_or, refl, ap, ◌∙◌, arith}
+use Rattle.std.proofs.Common.{◌≡◌, ℕ, zero, suc, ◌+◌, ◌-◌, ◌*◌, ◌/◌, ◌%◌, ◌^◌, ◌<◌, ◌≤◌, List, [], ◌∷◌, ◌++◌, get_or}
+use Rattle.std.proofs.Common.{refl, ap, ◌∙◌, arith}
 use Rattle.std.specs.Prelude.{◌==◌, fold, filter, reverse}
 use Rattle.std.specs.List.{range_with_len}
 use Rattle.std.proofs.lemmas.Bool.{eq-eqb, ne_eqb}
@@ -13,14 +14,16 @@ use Rattle.map_model.specs.Mercator.{unit, root_of_scale, scale_at, half_tangent
 
 range-snoc : (a n : ℕ) → range_with_len a (suc n) ≡ range_with_len a n ++ (a + n) ∷ []
 range-snoc a zero = ap (λ k. k ∷ []) (omega arith)
-range-snoc a (suc n) = ap (λ ks. a ∷ ks) (range-snoc (a + 1) n ∙ ap (λ k. range_with_len (a + 1) n ++ k ∷ []) (omega arith))
+range-snoc a (suc n) =
+    ap (λ ks. a ∷ ks) (range-snoc (a + 1) n ∙ ap (λ k. range_with_len (a + 1) n ++ k ∷ []) (omega arith))
 
 -- the bits below bit n, the highest first
 unfoldable pub bits_below : ℕ → ℕ → List ℕ
 bits_below a n = filter (λ j. a / 2 ^ j % 2 == 1) (reverse (range_with_len 0 n))
 
 range-down : (n : ℕ) → reverse (range_with_len 0 (suc n)) ≡ n ∷ reverse (range_with_len 0 n)
-range-down n = ap reverse (range-snoc 0 n) ∙ reverse-append (range_with_len 0 n) ((0 + n) ∷ []) ∙ ap (λ k. k ∷ reverse (range_with_len 0 n)) (omega arith)
+range-down n = ap reverse (range-snoc 0 n) ∙ reverse-append (range_with_len 0 n) ((0 + n) ∷ [])
+    ∙ ap (λ k. k ∷ reverse (range_with_len 0 n)) (omega arith)
 
 bits_below-set : (a n : ℕ) → a / 2 ^ n % 2 ≡ 1 → bits_below a (suc n) ≡ n ∷ bits_below a n
 unfolding bits_below
@@ -42,7 +45,8 @@ pub scale_on-end : (a p : ℕ) → scale_on a 0 p ≡ p
 unfolding scale_on bits_below
 scale_on-end a p = refl
 
-pub scale_on-set : (a n p : ℕ) → a / 2 ^ n % 2 ≡ 1 → scale_on a (suc n) p ≡ scale_on a n (p * root_of_scale (17 - n) / unit)
+pub scale_on-set : (a n p : ℕ) → a / 2 ^ n % 2 ≡ 1
+    → scale_on a (suc n) p ≡ scale_on a n (p * root_of_scale (17 - n) / unit)
 unfolding scale_on
 scale_on-set a n p is = rw (bits_below-set a n is) refl
 
@@ -81,7 +85,8 @@ ratio-le a b le = div-le_of_le-mul b (omega (arith, le))
 pub secant-le : (t : ℕ) → t ≤ unit → isqrt (unit * unit + t * t) ≤ 2 * unit
 secant-le t le = isqrt-le (2 * unit) (unit * unit + t * t) (omega (arith, mul-le-mul_left t le, le))
 
-pub first_root : (roots : List ℕ) → get_or roots 0 0 ≡ 43213918263772250 → (k : ℕ) → k < 1 → get_or roots k 0 ≡ root_of_scale k
+pub first_root : (roots : List ℕ) → get_or roots 0 0 ≡ 43213918263772250 → (k : ℕ) → k < 1
+    → get_or roots k 0 ≡ root_of_scale k
 unfolding root_of_scale
 first_root roots e zero lt = e
 first_root roots e (suc k) lt = absurd (omega (arith, lt))
@@ -92,14 +97,16 @@ root_of_scale-next zero root some e = absurd (omega (arith, some))
 root_of_scale-next (suc i) root some e = e ∙ ap (λ j. isqrt (root_of_scale j * unit)) (omega arith)
 
 -- one more bit of the scale
-pub scale_on-set_at : (a i root p : ℕ) → i < 18 → a / 2 ^ (17 - i) % 2 ≡ 1 → root ≡ root_of_scale i → scale_on a (18 - (i + 1)) (p * root / unit) ≡ scale_on a (18 - i) p
+pub scale_on-set_at : (a i root p : ℕ) → i < 18 → a / 2 ^ (17 - i) % 2 ≡ 1 → root ≡ root_of_scale i
+    → scale_on a (18 - (i + 1)) (p * root / unit) ≡ scale_on a (18 - i) p
 scale_on-set_at a i root p lt is e =
     let n : 18 - i ≡ suc (17 - i) = omega (arith, lt) in
     let n' : 18 - (i + 1) ≡ 17 - i = omega (arith, lt) in
     let same : 17 - (17 - i) ≡ i = omega (arith, lt) in
     rw (n, n', e, scale_on-set a (17 - i) p is, same) refl
 
-pub scale_on-clear_at : (a i p : ℕ) → i < 18 → (a / 2 ^ (17 - i) % 2 ≡ 1 → ⊥) → scale_on a (18 - (i + 1)) p ≡ scale_on a (18 - i) p
+pub scale_on-clear_at : (a i p : ℕ) → i < 18 → (a / 2 ^ (17 - i) % 2 ≡ 1 → ⊥)
+    → scale_on a (18 - (i + 1)) p ≡ scale_on a (18 - i) p
 scale_on-clear_at a i p lt not =
     let n : 18 - i ≡ suc (17 - i) = omega (arith, lt) in
     let n' : 18 - (i + 1) ≡ 17 - i = omega (arith, lt) in

@@ -21,11 +21,14 @@ arc_tangent-terms t = refl
 
 pub added_terms-more : (t n : ℕ) → added_terms t (n + 1) ≡ added_terms t n + odd_power t (2 * n) / (4 * n + 1)
 unfolding added_terms
-added_terms-more t n = sum_by-map-range_with_len_more (arc_term t) (λ k. 2 * k) 0 n n (omega arith) ∙ ap (λ d. added_terms t n + odd_power t (2 * n) / d) {x = 2 * (2 * n) + 1} (omega arith)
+added_terms-more t n = sum_by-map-range_with_len_more (arc_term t) (λ k. 2 * k) 0 n n (omega arith)
+    ∙ ap (λ d. added_terms t n + odd_power t (2 * n) / d) {x = 2 * (2 * n) + 1} (omega arith)
 
-pub subtracted_terms-more : (t n : ℕ) → subtracted_terms t (n + 1) ≡ subtracted_terms t n + odd_power t (2 * n + 1) / (4 * n + 3)
+pub subtracted_terms-more : (t n : ℕ)
+    → subtracted_terms t (n + 1) ≡ subtracted_terms t n + odd_power t (2 * n + 1) / (4 * n + 3)
 unfolding subtracted_terms
-subtracted_terms-more t n = sum_by-map-range_with_len_more (arc_term t) (λ k. 2 * k + 1) 0 n n (omega arith) ∙ ap (λ d. subtracted_terms t n + odd_power t (2 * n + 1) / d) {x = 2 * (2 * n + 1) + 1} (omega arith)
+subtracted_terms-more t n = sum_by-map-range_with_len_more (arc_term t) (λ k. 2 * k + 1) 0 n n (omega arith)
+    ∙ ap (λ d. subtracted_terms t n + odd_power t (2 * n + 1) / d) {x = 2 * (2 * n + 1) + 1} (omega arith)
 
 pub odd_power-more : (t n : ℕ) → odd_power t (n + 1) ≡ odd_power t n * (t * t / unit) / unit
 unfolding odd_power
@@ -41,7 +44,13 @@ pub record Sums (t n power added subtracted : ℕ) : Type 0 where
 
 pub sums-start : (t : ℕ) → Sums t 0 t 0 0
 unfolding odd_power added_terms subtracted_terms
-sums-start t = record { is_power = refl; is_added = refl; is_subtracted = refl; bound = omega arith; less = omega arith }
+sums-start t = record {
+  is_power = refl;
+  is_added = refl;
+  is_subtracted = refl;
+  bound = omega arith;
+  less = omega arith;
+}
 
 -- a small number times the square of the tangent is at most half of it
 halved : (t p : ℕ) → 8 * t ≤ unit → 2 * (p * (t * t / unit) / unit) ≤ p
@@ -52,15 +61,19 @@ halved t p small =
     let quotient : 2 * (p * (t * t / unit)) ≤ p * unit = omega (arith, most, more) in
     omega (arith, quotient)
 
-pub sums-more : (t square p q r a s n : ℕ) → 8 * t ≤ unit → square ≡ t * t / unit → q ≡ p * square / unit → r ≡ q * square / unit → Sums t n p a s
+pub sums-more : (t square p q r a s n : ℕ) → 8 * t ≤ unit → square ≡ t * t / unit → q ≡ p * square / unit
+    → r ≡ q * square / unit → Sums t n p a s
     → Sums t (n + 1) r (a + p / (4 * n + 1)) (s + q / (4 * n + 3))
 sums-more t square p q r a s n small is_square is_q is_r h =
     let half_q : 2 * q ≤ p = rw (is_q, is_square) (halved t p small) in
     let half_r : 2 * r ≤ q = rw (is_r, is_square) (halved t q small) in
-    let power_q : q ≡ odd_power t (2 * n + 1) = is_q ∙ (λ i. h.is_power i * is_square i / unit) ∙ sym (odd_power-more t (2 * n)) in
-    let power_r : r ≡ odd_power t (2 * (n + 1)) = is_r ∙ (λ i. power_q i * is_square i / unit) ∙ sym (odd_power-more t (2 * n + 1)) ∙ ap (odd_power t) (omega arith) in
+    let power_q : q ≡ odd_power t (2 * n + 1) =
+    is_q ∙ (λ i. h.is_power i * is_square i / unit) ∙ sym (odd_power-more t (2 * n)) in
+    let power_r : r ≡ odd_power t (2 * (n + 1)) = is_r ∙ (λ i. power_q i * is_square i / unit)
+    ∙ sym (odd_power-more t (2 * n + 1)) ∙ ap (odd_power t) (omega arith) in
     let term : p / (4 * n + 1) ≤ p = div-le_self p (4 * n + 1) in
-    let falls : q / (4 * n + 3) ≤ p / (4 * n + 1) = div-falls q p (4 * n + 3) (4 * n + 1) (omega (arith, half_q)) (omega arith) (omega arith) in
+    let falls : q / (4 * n + 3) ≤ p / (4 * n + 1) =
+    div-falls q p (4 * n + 3) (4 * n + 1) (omega (arith, half_q)) (omega arith) (omega arith) in
     record {
       is_power = power_r;
       is_added = (λ i. h.is_added i + h.is_power i / (4 * n + 1)) ∙ sym (added_terms-more t n);
@@ -76,4 +89,5 @@ sums-more t square p q r a s n small is_square is_q is_r h =
         le-div (q / d) p e some (omega (arith, whole, more, le))
 
 pub sums-end : (t p a s n : ℕ) → n ≡ 4 → Sums t n p a s → a - s ≡ arc_tangent t
-sums-end t p a s n e h = (λ i. h.is_added i - h.is_subtracted i) ∙ (λ i. added_terms t (e i) - subtracted_terms t (e i)) ∙ sym (arc_tangent-terms t)
+sums-end t p a s n e h = (λ i. h.is_added i - h.is_subtracted i) ∙ (λ i. added_terms t (e i) - subtracted_terms t (e i))
+    ∙ sym (arc_tangent-terms t)

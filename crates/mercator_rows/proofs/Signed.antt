@@ -1,5 +1,6 @@
 -- Signed numbers of the code that fit their types.
-use Rattle.std.proofs.Common.{◌≡◌, ℕ, zero, suc, ◌-◌, ◌*◌, ◌/◌, ◌%◌, ◌^◌, ◌<◌, ◌≤◌, refl, ◌∙◌, ap, arith, w32, w64, inl, inr, true}
+use Rattle.std.proofs.Common.{◌≡◌, ℕ, zero, suc, ◌-◌, ◌*◌, ◌/◌, ◌%◌, ◌^◌, ◌<◌, ◌≤◌, refl, ◌∙◌, ap, arith, w32, w64, inl}
+use Rattle.std.proofs.Common.{inr, true}
 use Rattle.std.specs.Prelude.{ℤ, leb, pos, negsuc, nat_abs, ◌+ℤ◌, ◌-ℤ◌, ◌*ℤ◌, int_div, min, FitsSigned}
 use Rattle.std.specs.Int.{cast_signed, cast_unsigned, int_max}
 use Rattle.std.proofs.lemmas.Int.{to_z-of_z, fits_signed_from_abs}
@@ -42,30 +43,37 @@ above_zero-le : (z : ℤ) → above_zero z ≤ nat_abs z
 above_zero-le (pos n) = omega arith
 above_zero-le (negsuc n) = omega arith
 
-pub column-is : (z : ℕ) (lon from east : ℤ) → z ≤ 18 → FitsSigned w32 lon → from ≡ cast_signed w32 (cast_unsigned w32 lon)
-    → east ≡ int_max (cast_signed w64 (cast_unsigned w64 (cast_signed w64 (cast_unsigned w64 from) +ℤ pos 180000000))) (pos 0)
-    → min (nat_abs (cast_signed w64 (cast_unsigned w64 east)) * (1 * 2 ^ z % 2 ^ 64) / 360000000) (1 * 2 ^ z % 2 ^ 64 - 1) ≡ column z lon
+pub column-is : (z : ℕ) (lon from east : ℤ) → z ≤ 18 → FitsSigned w32 lon
+    → from ≡ cast_signed w32 (cast_unsigned w32 lon)
+    → east ≡ int_max (cast_signed w64 (cast_unsigned w64 (cast_signed w64 (cast_unsigned w64 from) +ℤ pos 180000000)))
+    (pos 0)
+    → min (nat_abs (cast_signed w64 (cast_unsigned w64 east)) * (1 * 2 ^ z % 2 ^ 64) / 360000000)
+    (1 * 2 ^ z % 2 ^ 64 - 1) ≡ column z lon
 unfolding column
 column-is z lon from east le fits is_from is_east = rw (columns-fit z le, told) refl
   where
     same : cast_signed w64 (cast_unsigned w64 from) ≡ lon
-    same = ap (λ (f : ℤ). cast_signed w64 (cast_unsigned w64 f)) (is_from ∙ to_z-of_z w32 lon fits) ∙ again lon (small-wide lon fits)
+    same = ap (λ (f : ℤ). cast_signed w64 (cast_unsigned w64 f)) (is_from ∙ to_z-of_z w32 lon fits)
+        ∙ again lon (small-wide lon fits)
 
     greater : east ≡ int_max (lon +ℤ pos 180000000) (pos 0)
-    greater = is_east ∙ ap (λ (f : ℤ). int_max (cast_signed w64 (cast_unsigned w64 (f +ℤ pos 180000000))) (pos 0)) same ∙ ap (λ (f : ℤ). int_max f (pos 0)) (again (lon +ℤ pos 180000000) (east-small lon fits))
+    greater = is_east ∙ ap (λ (f : ℤ). int_max (cast_signed w64 (cast_unsigned w64 (f +ℤ pos 180000000))) (pos 0)) same
+        ∙ ap (λ (f : ℤ). int_max f (pos 0)) (again (lon +ℤ pos 180000000) (east-small lon fits))
 
     above : nat_abs east ≡ above_zero (lon +ℤ pos 180000000)
     above = ap nat_abs greater ∙ max-above_zero (lon +ℤ pos 180000000)
 
     told : nat_abs (cast_signed w64 (cast_unsigned w64 east)) ≡ above_zero (lon +ℤ pos 180000000)
-    told = ap nat_abs (again east (omega (arith, above, above_zero-le (lon +ℤ pos 180000000), east-small lon fits))) ∙ above
+    told = ap nat_abs (again east (omega (arith, above, above_zero-le (lon +ℤ pos 180000000), east-small lon fits)))
+        ∙ above
 
 -- ---- corners
 
 -- a number that passes the test of 32 bits fits them
 fits-in_32 : (z : ℤ) → is_signed_32 z ≡ true → FitsSigned w32 z
 fits-in_32 (pos n) h = record { sfits = omega (arith, leb-true n 2147483647 h) }
-fits-in_32 (negsuc n) h = record { sfits = omega (arith, leb-true n 2147483647 (and_parts (leb n 2147483647) true h).0) }
+fits-in_32 (negsuc n) h =
+    record { sfits = omega (arith, leb-true n 2147483647 (and_parts (leb n 2147483647) true h).0) }
 
 tile_at : ℕ → ℕ → TilePlace
 tile_at z x = record { index = 0; interval = record { base = z; min = 0; max = 0 }; x = x; y = 0 }
@@ -87,9 +95,11 @@ read_64 z = cast_signed w64 (cast_unsigned w64 z)
 
 -- the longitude of the western edge of a column
 pub western : (z x : ℕ) (left columns : ℤ) → z ≤ 18 → x < 2 ^ z → left ≡ pos x → columns ≡ pos (1 * 2 ^ z % 2 ^ 32)
-    → read_64 (int_div (read_64 (read_64 (pos 360000000 *ℤ read_64 left) -ℤ read_64 (pos 180000000 *ℤ read_64 columns))) (read_64 columns)) ≡ corner_lon z x
+    → read_64 (int_div (read_64 (read_64 (pos 360000000 *ℤ read_64 left) -ℤ read_64 (pos 180000000 *ℤ read_64 columns)))
+    (read_64 columns)) ≡ corner_lon z x
 unfolding corner_lon
-western z x left columns le below is_left is_columns = ap read_64 quotient ∙ again (corner_lon z x) (small-wide (corner_lon z x) (corner_lon-fits z x below))
+western z x left columns le below is_left is_columns =
+    ap read_64 quotient ∙ again (corner_lon z x) (small-wide (corner_lon z x) (corner_lon-fits z x below))
   where
     few : 2 ^ z ≤ 262144
     few = pow-le-pow_right {n = 2} (omega arith) {i = z} {j = 18} le
@@ -98,13 +108,22 @@ western z x left columns le below is_left is_columns = ap read_64 quotient ∙ a
     width = ap read_64 (is_columns ∙ ap pos (omega (arith, few))) ∙ again (pos (2 ^ z)) (omega (arith, few))
 
     west : read_64 (pos 360000000 *ℤ read_64 left) ≡ pos (360000000 * x)
-    west = ap (λ (l : ℤ). read_64 (pos 360000000 *ℤ l)) (ap read_64 is_left ∙ again (pos x) (omega (arith, few, below))) ∙ again (pos (360000000 * x)) (omega (arith, few, below))
+    west = ap (λ (l : ℤ). read_64 (pos 360000000 *ℤ l)) (ap read_64 is_left ∙ again (pos x) (omega (arith, few, below)))
+        ∙ again (pos (360000000 * x)) (omega (arith, few, below))
 
     middle : read_64 (pos 180000000 *ℤ read_64 columns) ≡ pos (180000000 * 2 ^ z)
     middle = ap (λ (l : ℤ). read_64 (pos 180000000 *ℤ l)) width ∙ again (pos (180000000 * 2 ^ z)) (omega (arith, few))
 
-    east : read_64 (read_64 (pos 360000000 *ℤ read_64 left) -ℤ read_64 (pos 180000000 *ℤ read_64 columns)) ≡ pos (360000000 * x) -ℤ pos (180000000 * 2 ^ z)
-    east = (λ i. read_64 (west i -ℤ middle i)) ∙ again (pos (360000000 * x) -ℤ pos (180000000 * 2 ^ z)) (omega (arith, minus-le (360000000 * x) (180000000 * 2 ^ z) (360000000 * 262144) (omega (arith, few, below)) (omega (arith, few))))
+    east : read_64 (read_64 (pos 360000000 *ℤ read_64 left) -ℤ read_64 (pos 180000000 *ℤ read_64 columns))
+        ≡ pos (360000000 * x) -ℤ pos (180000000 * 2 ^ z)
+    east = (λ i. read_64 (west i -ℤ middle i))
+        ∙ again (pos (360000000 * x) -ℤ pos (180000000 * 2 ^ z))
+        (omega (
+          arith,
+          minus-le (360000000 * x) (180000000 * 2 ^ z) (360000000 * 262144) (omega (arith, few, below))
+              (omega (arith, few)),
+        ))
 
-    quotient : int_div (read_64 (read_64 (pos 360000000 *ℤ read_64 left) -ℤ read_64 (pos 180000000 *ℤ read_64 columns))) (read_64 columns) ≡ corner_lon z x
+    quotient : int_div (read_64 (read_64 (pos 360000000 *ℤ read_64 left) -ℤ read_64 (pos 180000000 *ℤ read_64 columns)))
+        (read_64 columns) ≡ corner_lon z x
     quotient = λ i. int_div (east i) (width i)

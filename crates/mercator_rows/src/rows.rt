@@ -42,7 +42,8 @@ impl Rows {
         Ok(Rows { edges })
     }
 
-    /// The row of a latitude at zoom `z`, row 0 lying in the north. What is beyond the table is in the first or the last row.
+    /// The row of a latitude at zoom `z`, row 0 lying in the north. What is beyond the table is in the first or the
+    /// last row.
     pub fn row(&self, z: u8, lat: i32) -> u32
         requires { z ≤ 18 }
         ensures { result ≡ row z lat }
@@ -50,7 +51,8 @@ impl Rows {
         self.fine_row(lat) >> (18 - z)
     }
 
-    /// The column of a longitude at zoom `z`, column 0 lying in the west. The date line in the east is in the last column.
+    /// The column of a longitude at zoom `z`, column 0 lying in the west. The date line in the east is in the last
+    /// column.
     pub fn column(&self, z: u8, lon: i32) -> u32
         requires { z ≤ 18 }
         ensures { result ≡ column z lon }

@@ -1,12 +1,14 @@
 -- Parts in memory, as lists of bytes.
-use Rattle.std.proofs.Common.{◌≡◌, ◌≢◌, ℕ, zero, suc, ◌+◌, ◌<◌, List, [], ◌∷◌, ◌++◌, length, set, refl, sym, ap, ◌∙◌, Option, Some, None, get_or, cond, arith}
+use Rattle.std.proofs.Common.{◌≡◌, ◌≢◌, ℕ, zero, suc, ◌+◌, ◌<◌, List, [], ◌∷◌, ◌++◌, length, set, refl, sym, ap, ◌∙◌}
+use Rattle.std.proofs.Common.{Option, Some, None, get_or, cond, arith}
 use Rattle.std.specs.Prelude.{Vec, option_map, is_some, IsSome, unwrap_or, count_by}
 use Rattle.std.proofs.Math.ListN.{get_or-map}
 use Rattle.std.proofs.lemmas.List.{get_or_default, get_or-set_same, get_or-set_other, map-set, map-append, length-map}
 use Rattle.std.proofs.lemmas.List.Sums.{sum_by-cons, sum_by-set, sum_by-append}
 use Rattle.mf_edge.specs.MemoryStore.{bytes_in, held, held_count, IsMadeIn, IsGoneFrom, IsSetIn}
 
-pub held-in : {Z : Type 0} (parts : List (Option (Vec ℕ Z))) (q : ℕ) → held (bytes_in parts) q ≡ option_map (λ v. v.items) (get_or parts q None)
+pub held-in : {Z : Type 0} (parts : List (Option (Vec ℕ Z))) (q : ℕ)
+    → held (bytes_in parts) q ≡ option_map (λ v. v.items) (get_or parts q None)
 held-in parts q = get_or-map (option_map (λ v. v.items)) parts q None
 
 pub count-in : {Z : Type 0} (parts : List (Option (Vec ℕ Z))) → held_count (bytes_in parts) ≡ count_by is_some parts
@@ -17,7 +19,8 @@ count-in (part ∷ parts) =
     ∙ ap (λ n. cond (is_some part) 1 0 + n) (count-in parts)
     ∙ sym (sum_by-cons (λ p. cond (is_some p) 1 0) part parts)
   where
-    same : {Z : Type 0} (part : Option (Vec ℕ Z)) → ◌≡◌ {A = ℕ} (cond (is_some (option_map (λ v. v.items) part)) 1 0) (cond (is_some part) 1 0)
+    same : {Z : Type 0} (part : Option (Vec ℕ Z))
+        → ◌≡◌ {A = ℕ} (cond (is_some (option_map (λ v. v.items) part)) 1 0) (cond (is_some part) 1 0)
     same (Some v) = refl
     same None = refl
 
@@ -41,10 +44,12 @@ unwrapped None some = cc
 not_counted : (p : Option (List ℕ)) → p ≡ None → ◌≡◌ {A = ℕ} (cond (is_some p) 1 0) 0
 not_counted p none = rw none refl
 
-recount : (parts : List (Option (List ℕ))) (part : ℕ) (now : Option (List ℕ)) → part < length parts → held_count (set parts part now) + cond (is_some (held parts part)) 1 0 ≡ held_count parts + cond (is_some now) 1 0
+recount : (parts : List (Option (List ℕ))) (part : ℕ) (now : Option (List ℕ)) → part < length parts
+    → held_count (set parts part now) + cond (is_some (held parts part)) 1 0 ≡ held_count parts + cond (is_some now) 1 0
 recount parts part now within = sum_by-set (λ p. cond (is_some p) 1 0) parts part now None within
 
-pub set_in : (parts : List (Option (List ℕ))) (part : ℕ) (bytes : List ℕ) → IsSome (held parts part) → IsSetIn part bytes parts (set parts part (Some bytes))
+pub set_in : (parts : List (Option (List ℕ))) (part : ℕ) (bytes : List ℕ) → IsSome (held parts part)
+    → IsSetIn part bytes parts (set parts part (Some bytes))
 set_in parts part bytes some =
     let in_list = within parts part some in
     let many = recount parts part (Some bytes) in_list in
@@ -54,7 +59,8 @@ set_in parts part bytes some =
       others = λ q differs. get_or-set_other parts part q (Some bytes) None differs;
     }
 
-pub gone_from : (parts : List (Option (List ℕ))) (part : ℕ) → IsSome (held parts part) → IsGoneFrom part parts (set parts part None)
+pub gone_from : (parts : List (Option (List ℕ))) (part : ℕ) → IsSome (held parts part)
+    → IsGoneFrom part parts (set parts part None)
 gone_from parts part some =
     let in_list = within parts part some in
     let many = recount parts part None in_list in
@@ -64,7 +70,8 @@ gone_from parts part some =
       others = λ q differs. get_or-set_other parts part q None None differs;
     }
 
-pub made_in : (parts : List (Option (List ℕ))) (part : ℕ) → held parts part ≡ None → part < length parts → IsMadeIn part parts (set parts part (Some []))
+pub made_in : (parts : List (Option (List ℕ))) (part : ℕ) → held parts part ≡ None → part < length parts
+    → IsMadeIn part parts (set parts part (Some []))
 made_in parts part none in_list =
     let many = recount parts part (Some []) in_list in
     record {
@@ -74,7 +81,8 @@ made_in parts part none in_list =
       others = λ q differs. get_or-set_other parts part q (Some []) None differs;
     }
 
-pub made_behind : (parts : List (Option (List ℕ))) (part : ℕ) → held parts part ≡ None → part ≡ length parts → IsMadeIn part parts (parts ++ Some [] ∷ [])
+pub made_behind : (parts : List (Option (List ℕ))) (part : ℕ) → held parts part ≡ None → part ≡ length parts
+    → IsMadeIn part parts (parts ++ Some [] ∷ [])
 made_behind parts part none last = rw last (record {
   fresh = rw (← last) none;
   empty = at_end parts (Some []);
@@ -86,7 +94,8 @@ made_behind parts part none last = rw last (record {
     at_end [] p = refl
     at_end (first ∷ parts) p = at_end parts p
 
-    before : (parts : List (Option (List ℕ))) (p : Option (List ℕ)) (q : ℕ) → q ≢ length parts → held (parts ++ p ∷ []) q ≡ held parts q
+    before : (parts : List (Option (List ℕ))) (p : Option (List ℕ)) (q : ℕ) → q ≢ length parts
+        → held (parts ++ p ∷ []) q ≡ held parts q
     before [] p zero differs = absurd (differs refl)
     before [] p (suc q) differs = refl
     before (first ∷ parts) p zero differs = refl
@@ -94,26 +103,40 @@ made_behind parts part none last = rw last (record {
 
 -- ---- the same of parts in memory
 
-module _ {Z : Type 0} (before : List (Option (List ℕ))) (parts : List (Option (Vec ℕ Z))) (seen : before ≡ bytes_in parts) (part : ℕ) where
+module _ {Z : Type 0} (before : List (Option (List ℕ))) (parts : List (Option (Vec ℕ Z)))
+    (seen : before ≡ bytes_in parts) (part : ℕ) where
   written : (now : Option (Vec ℕ Z)) → bytes_in (set parts part now) ≡ set before part (option_map (λ v. v.items) now)
-  written now = map-set (option_map (λ v. v.items)) parts part now ∙ ap (λ all. set all part (option_map (λ v. v.items) now)) (sym seen)
+  written now = map-set (option_map (λ v. v.items)) parts part now
+      ∙ ap (λ all. set all part (option_map (λ v. v.items) now)) (sym seen)
 
-  pub set_of : (now : Option (Vec ℕ Z)) (bytes : List ℕ) → option_map (λ v. v.items) now ≡ Some bytes → IsSome (held before part) → IsSetIn part bytes before (bytes_in (set parts part now))
+  pub set_of : (now : Option (Vec ℕ Z)) (bytes : List ℕ) → option_map (λ v. v.items) now ≡ Some bytes
+      → IsSome (held before part) → IsSetIn part bytes before (bytes_in (set parts part now))
   set_of now bytes is some = rw (written now, is) (set_in before part bytes some)
 
   pub gone_of : IsSome (held before part) → IsGoneFrom part before (bytes_in (set parts part None))
   gone_of some = rw (written None) (gone_from before part some)
 
-  pub made_of : (v : Vec ℕ Z) → v.items ≡ [] → held before part ≡ None → part < length parts → IsMadeIn part before (bytes_in (set parts part (Some v)))
-  made_of v empty none in_list = rw (written (Some v), empty) (made_in before part none (rw (seen, length-map parts (option_map (λ (v : Vec ℕ Z). v.items))) in_list))
+  pub made_of : (v : Vec ℕ Z) → v.items ≡ [] → held before part ≡ None → part < length parts
+      → IsMadeIn part before (bytes_in (set parts part (Some v)))
+  made_of v empty none in_list =
+      rw (written (Some v), empty)
+      (made_in before part none (rw (seen, length-map parts (option_map (λ (v : Vec ℕ Z). v.items))) in_list))
 
-  pub pushed_of : (v : Vec ℕ Z) → v.items ≡ [] → held before part ≡ None → part ≡ length parts → IsMadeIn part before (bytes_in (parts ++ Some v ∷ []))
+  pub pushed_of : (v : Vec ℕ Z) → v.items ≡ [] → held before part ≡ None → part ≡ length parts
+      → IsMadeIn part before (bytes_in (parts ++ Some v ∷ []))
   pushed_of v empty none last =
-      let more : bytes_in (parts ++ Some v ∷ []) ≡ before ++ Some v.items ∷ [] = map-append (option_map (λ v. v.items)) parts (Some v ∷ []) ∙ ap (λ all. all ++ Some v.items ∷ []) (sym seen) in
-      rw (more, empty) (made_behind before part none (last ∙ sym (length-map parts (option_map (λ (v : Vec ℕ Z). v.items))) ∙ ap length (sym seen)))
+      let more : bytes_in (parts ++ Some v ∷ []) ≡ before ++ Some v.items ∷ [] =
+      map-append (option_map (λ v. v.items)) parts (Some v ∷ [])
+      ∙ ap (λ all. all ++ Some v.items ∷ []) (sym seen) in
+      rw (more, empty)
+      (made_behind before part none (last ∙ sym (length-map parts (option_map (λ (v : Vec ℕ Z). v.items)))
+      ∙ ap length (sym seen)))
 
   -- the bytes of a part that is read
-  pub part_of : (was : Option (Vec ℕ Z)) → was ≡ get_or parts part was → IsSome (held before part) → option_map (λ v. v.items) was ≡ held before part
+  pub part_of : (was : Option (Vec ℕ Z)) → was ≡ get_or parts part was → IsSome (held before part)
+      → option_map (λ v. v.items) was ≡ held before part
   part_of was is some =
-      let in_list : part < length parts = rw (← length-map parts (option_map (λ (v : Vec ℕ Z). v.items)), ← seen) (within before part some) in
-      ap (option_map (λ v. v.items)) (is ∙ get_or_default parts part was None in_list) ∙ sym (held-in parts part) ∙ ap (λ all. held all part) (sym seen)
+      let in_list : part < length parts =
+      rw (← length-map parts (option_map (λ (v : Vec ℕ Z). v.items)), ← seen) (within before part some) in
+      ap (option_map (λ v. v.items)) (is ∙ get_or_default parts part was None in_list) ∙ sym (held-in parts part)
+      ∙ ap (λ all. held all part) (sym seen)

@@ -14,7 +14,8 @@ step-then m n old mid new first second = record {
 -- so many bytes are those of each part
 pub walk-then : (more : ℕ) (old mid new : StreamState) → IsWalk 0 old mid → IsWalk more mid new → IsWalk more old new
 walk-then more old mid new first second =
-    let both = step-then (mid.offset - old.offset + 0) (new.offset - mid.offset + more) old mid new first second in record {
+    let both = step-then (mid.offset - old.offset + 0) (new.offset - mid.offset + more) old mid new first second in
+    record {
       same_reference = both.same_reference;
       rises = both.rises;
       far = omega (arith, both.rises);

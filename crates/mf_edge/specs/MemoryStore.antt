@@ -1,5 +1,6 @@
 -- What the store in memory keeps. This project's own.
-use Rattle.std.specs.Prelude.{Vec, ◌≡◌, ◌≢◌, ℕ, ◌+◌, Bool, false, List, [], map, length, Option, Some, None, option_map, unwrap_or, slice_index_or, count_by, is_some}
+use Rattle.std.specs.Prelude.{Vec, ◌≡◌, ◌≢◌, ℕ, ◌+◌, Bool, false, List, [], map, length, Option, Some, None, option_map}
+use Rattle.std.specs.Prelude.{unwrap_or, slice_index_or, count_by, is_some}
 use Rattle.mf_edge.specs.Spill.{SpillState}
 use Rattle.mf_edge.specs.Memory.{Calls}
 

@@ -8,7 +8,8 @@ use std::alloc::{AllocError, Global};
 /// The bytes, as rows of so many bytes each, in ascending order.
 pub(crate) fn ordered(alloc: Global, bytes: &[u8], width: usize) -> Result<Vec<u8>, AllocError>
     requires width { 1 ≤ width }
-    ensures ordered { IfOk result (λ v. (n : ℕ) → length bytes.now ≡ width * n → v.items ≡ joined (ascending (cut_rows width n bytes.now))) }
+    ensures ordered { IfOk result (λ v. (n : ℕ) → length bytes.now ≡ width * n
+        → v.items ≡ joined (ascending (cut_rows width n bytes.now))) }
 {
     let mut rows = cut(alloc, bytes, width)?;
     rows.sort()?;
@@ -19,7 +20,8 @@ pub(crate) fn ordered(alloc: Global, bytes: &[u8], width: usize) -> Result<Vec<u
 // The rows of the bytes.
 fn cut(alloc: Global, bytes: &[u8], width: usize) -> Result<Vec<Vec<u8>>, AllocError>
     requires { 1 ≤ width }
-    ensures { IfOk result (λ v. (n : ℕ) → length bytes.now ≡ width * n → map (λ r. r.items) v.items ≡ cut_rows width n bytes.now) }
+    ensures { IfOk result (λ v. (n : ℕ) → length bytes.now ≡ width * n
+        → map (λ r. r.items) v.items ≡ cut_rows width n bytes.now) }
 {
     let mut rows = Vec::new(alloc);
     let mut rest = bytes;

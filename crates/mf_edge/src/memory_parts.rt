@@ -1,6 +1,7 @@
 //! Parts in memory.
 
-ghost use Rattle.std.specs.Prelude.{◌≡◌, ◌+◌, ◌≤◌, ◌<◌, ◌++◌, true, false, [], length, Some, None, IfSome, IsSome, is_some, IsNone, unwrap_or, option_map};
+ghost use Rattle.std.specs.Prelude.{◌≡◌, ◌+◌, ◌≤◌, ◌<◌, ◌++◌, true, false, [], length, Some, None, IfSome, IsSome};
+ghost use Rattle.std.specs.Prelude.{is_some, IsNone, unwrap_or, option_map};
 ghost use Rattle.mf_edge.specs.MemoryStore.{held, held_count, bytes_in, IsMadeIn, IsGoneFrom, IsSetIn};
 
 use std::alloc::Global;
@@ -113,7 +114,8 @@ fn free_place(parts: &[Option<Vec<u8>>]) -> usize
 fn append_to(part: &mut Option<Vec<u8>>, bytes: &[u8]) -> bool
     requires { IsSome part.old }
     ensures there { IsSome part.new }
-    ensures put { result ≡ true → option_map (λ v. v.items) part.new ≡ Some (unwrap_or (option_map (λ v. v.items) part.old) [] ++ bytes.now) }
+    ensures put { result ≡ true
+        → option_map (λ v. v.items) part.new ≡ Some (unwrap_or (option_map (λ v. v.items) part.old) [] ++ bytes.now) }
     ensures none { result ≡ false → option_map (λ v. v.items) part.new ≡ option_map (λ v. v.items) part.old }
 {
     match part {

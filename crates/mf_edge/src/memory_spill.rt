@@ -1,6 +1,7 @@
 //! A store in memory.
 
-ghost use Rattle.std.specs.Prelude.{◌≡◌, ◌≢◌, ℕ, ◌+◌, ◌*◌, ◌<◌, ◌≤◌, true, false, length, Some, None, IfOk, OnOk, OnErr, IsSome};
+ghost use Rattle.std.specs.Prelude.{◌≡◌, ◌≢◌, ℕ, ◌+◌, ◌*◌, ◌<◌, ◌≤◌, true, false, length, Some, None, IfOk, OnOk};
+ghost use Rattle.std.specs.Prelude.{OnErr, IsSome};
 ghost use Rattle.mf_edge.specs.MemoryStore.{new_store};
 
 use crate::calls::Calls;
@@ -38,7 +39,15 @@ impl Model for MemSpill {
 
     ghost Value = { MemoryStore };
 
-    ghost view = { λ s. record { name = if s.is_named then Some s.name.bytes else None; is_started = s.is_started; tells = s.tells; is_overrun = s.is_overrun; parts = s.parts; calls = s.calls; until_zeros = s.until_zeros } };
+    ghost view = { λ s. record {
+      name = if s.is_named then Some s.name.bytes else None;
+      is_started = s.is_started;
+      tells = s.tells;
+      is_overrun = s.is_overrun;
+      parts = s.parts;
+      calls = s.calls;
+      until_zeros = s.until_zeros;
+    } };
 
     ghost invariant = { λ s. s.name.capacity ≡ 4095 };
 }

@@ -1,9 +1,11 @@
 //! Where parts are kept and ordered.
 
-ghost use Rattle.std.specs.Prelude.{◌≡◌, ℕ, ◌+◌, ◌*◌, ◌<◌, ◌≤◌, true, false, length, Some, IfOk, OnOk, OnErr, IsErr, IsSome};
+ghost use Rattle.std.specs.Prelude.{◌≡◌, ℕ, ◌+◌, ◌*◌, ◌<◌, ◌≤◌, true, false, length, Some, IfOk, OnOk, OnErr, IsErr};
+ghost use Rattle.std.specs.Prelude.{IsSome};
 ghost use Rattle.mf_base.specs.Ascending.{cut_rows, joined, ascending};
 ghost use Rattle.mf_edge.specs.Device.{CountsOne};
-ghost use Rattle.mf_edge.specs.Spill.{SpillState, IsNameOf, HasBytes, IsRestarted, HasNoPart, SameStore, TouchesOnly, IsMade, IsAppended, SameParts, stretch, IsForgotten, most_parts, part_limit};
+ghost use Rattle.mf_edge.specs.Spill.{SpillState, IsNameOf, HasBytes, IsRestarted, HasNoPart, SameStore, TouchesOnly};
+ghost use Rattle.mf_edge.specs.Spill.{IsMade, IsAppended, SameParts, stretch, IsForgotten, most_parts, part_limit};
 
 use crate::{Failed, Steps};
 use std::sync::ledger::Ledger;
@@ -53,9 +55,12 @@ pub trait Spill {
 
         ensures failed { OnErr result (CountsOne (state self.old).faults (state self.new).faults) }
 
-        ensures within { (n : ℕ) → (state self.old).size part ≡ Some n → n + length bytes.now ≤ part_limit → (state self.new).is_overrun ≡ (state self.old).is_overrun }
-        ensures past { (n : ℕ) → (state self.old).size part ≡ Some n → part_limit < n + length bytes.now → IsErr result }
-        ensures overrun { (n : ℕ) → (state self.old).size part ≡ Some n → part_limit < n + length bytes.now → (state self.new).is_overrun ≡ true }
+        ensures within { (n : ℕ) → (state self.old).size part ≡ Some n → n + length bytes.now ≤ part_limit
+            → (state self.new).is_overrun ≡ (state self.old).is_overrun }
+        ensures past { (n : ℕ) → (state self.old).size part ≡ Some n → part_limit < n + length bytes.now
+            → IsErr result }
+        ensures overrun { (n : ℕ) → (state self.old).size part ≡ Some n → part_limit < n + length bytes.now
+            → (state self.new).is_overrun ≡ true }
 
         ensures still_there { IsSome ((state self.new).size part) }
         ensures only { TouchesOnly part (state self.old) (state self.new) }
@@ -71,7 +76,8 @@ pub trait Spill {
     ) -> Result<(), Failed>
         requires started { (state self.old).is_started ≡ true }
         requires range { HasBytes (state self.old) part (at + length out.old) }
-        ensures read { OnOk result ((state self.old).tells ≡ true → out.new ≡ stretch (state self.old) part at (length out.old)) }
+        ensures read { OnOk result ((state self.old).tells ≡ true
+            → out.new ≡ stretch (state self.old) part at (length out.old)) }
         ensures same_faults { OnOk result ((state self.new).faults ≡ (state self.old).faults) }
 
         ensures failed { OnErr result (CountsOne (state self.old).faults (state self.new).faults) }
@@ -86,7 +92,9 @@ pub trait Spill {
         requires started { (state self.old).is_started ≡ true }
         requires width { (1 ≤ width) × (width ≤ 39) }
         requires rows { (n : ℕ) × ((state self.old).size part ≡ Some (width * n)) }
-        ensures ordered { OnOk result ((n : ℕ) → (state self.old).size part ≡ Some (width * n) → (state self.old).tells ≡ true → (state self.new).bytes part ≡ joined (ascending (cut_rows width n ((state self.old).bytes part)))) }
+        ensures ordered { OnOk result ((n : ℕ) → (state self.old).size part ≡ Some (width * n)
+            → (state self.old).tells ≡ true → (state self.new).bytes part ≡ joined (ascending
+            (cut_rows width n ((state self.old).bytes part)))) }
         ensures same_faults { OnOk result ((state self.new).faults ≡ (state self.old).faults) }
 
         ensures failed { OnErr result (CountsOne (state self.old).faults (state self.new).faults) }

@@ -12,7 +12,18 @@ use Rattle.mfwrite.proofs.Compute.{compute}
 use Rattle.mfwrite.proofs.OneMap.{map-told, report-told}
 
 are-words : (zoom : ℕ) → zoom ≤ 21 → AreFirstWords (benches_from zoom)
-are-words zoom low = record { short_key = refl; short_value = refl; plain = refl; no_water = refl; no_label = refl; zoom = low; base = refl; min = refl; max = omega arith; date = omega arith }
+are-words zoom low = record {
+  short_key = refl;
+  short_value = refl;
+  plain = refl;
+  no_water = refl;
+  no_label = refl;
+  zoom = low;
+  base = refl;
+  min = refl;
+  max = omega arith;
+  date = omega arith;
+}
 
 pub bench-entities : entities_told bench_value ≡ input_entities one_bench
 unfolding compute
@@ -30,16 +41,39 @@ pub later-map : first_map (benches_from 8) bench_value ≡ empty_map
 unfolding compute
 later-map = map-told (benches_from 8) (are-words 8 (omega arith)) bench_value
 
-pub later-report : first_report (benches_from 8) bench_value ≡ record { nodes = 1; ways = 0; relations = 0; features = 1; skipped = 0; tiles = 0; water = 0; bytes = 115; largest = 11 }
+pub later-report : first_report (benches_from 8) bench_value ≡ record {
+  nodes = 1;
+  ways = 0;
+  relations = 0;
+  features = 1;
+  skipped = 0;
+  tiles = 0;
+  water = 0;
+  bytes = 115;
+  largest = 11;
+}
 unfolding compute
 later-report = report-told (benches_from 8) (are-words 8 (omega arith)) bench_value
 
 pub shop-map : first_map (benches_from 5) (value_of_nodes (codes "shop") (codes "bench") three_nodes) ≡ empty_map
 unfolding compute
-shop-map = map-told (benches_from 5) (are-words 5 (omega arith)) (value_of_nodes (codes "shop") (codes "bench") three_nodes)
+shop-map = map-told (benches_from 5) (are-words 5 (omega arith))
+    (value_of_nodes (codes "shop") (codes "bench") three_nodes)
 
-pub three-report : first_report (benches_from 5) (value_of_nodes (codes "amenity") (codes "bench") three_nodes) ≡ record { nodes = 3; ways = 0; relations = 0; features = 2; skipped = 0; tiles = 1; water = 0; bytes = 156; largest = 22 }
+pub three-report : first_report (benches_from 5) (value_of_nodes (codes "amenity") (codes "bench") three_nodes)
+    ≡ record {
+      nodes = 3;
+      ways = 0;
+      relations = 0;
+      features = 2;
+      skipped = 0;
+      tiles = 1;
+      water = 0;
+      bytes = 156;
+      largest = 22;
+    }
 unfolding compute
-three-report = report-told (benches_from 5) (are-words 5 (omega arith)) (value_of_nodes (codes "amenity") (codes "bench") three_nodes)
+three-report = report-told (benches_from 5) (are-words 5 (omega arith))
+    (value_of_nodes (codes "amenity") (codes "bench") three_nodes)
 
 pub ruleset bench_rows = (bench-entities, bench-map, bench-report, later-map, later-report, shop-map, three-report)

@@ -7,5 +7,6 @@ use Rattle.pbf_frame.specs.FirstEntities.{entities_told}
 use Rattle.mfwrite.specs.FirstMap.{matching, pois}
 
 unfoldable pub compute : ⊤
-unfolding tile.compute frame.compute behind told_entry first_entry first_interval first_date first_words entities_told matching pois
+unfolding tile.compute frame.compute behind told_entry first_entry first_interval first_date first_words entities_told
+    matching pois
 compute = tt

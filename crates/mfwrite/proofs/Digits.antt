@@ -1,5 +1,6 @@
 -- Digits read by `parse` are the numbers of the words.
-use Rattle.std.proofs.Common.{◌≡◌, ◌≢◌, ℕ, ◌^◌, ◌<◌, ◌≤◌, List, [], ◌∷◌, length, get_or, refl, sym, ap, ◌∙◌, arith, inl, inr, rules, true, false, ◌&&◌, Some, None, option_and_then, Result, Ok, Err}
+use Rattle.std.proofs.Common.{◌≡◌, ◌≢◌, ℕ, ◌^◌, ◌<◌, ◌≤◌, List, [], ◌∷◌, length, get_or, refl, sym, ap, ◌∙◌, arith, inl}
+use Rattle.std.proofs.Common.{inr, rules, true, false, ◌&&◌, Some, None, option_and_then, Result, Ok, Err}
 use Rattle.std.specs.Prelude.{nat_le}
 use Rattle.std.specs.List.{list_all}
 use Rattle.std.specs.Char.{is_ascii_digit}
@@ -25,7 +26,8 @@ signed (b ∷ text) h = rw h refl
 
 pub with_plus : (greatest : ℕ) (text : List ℕ) → get_or text 0 0 ≡ 43 → None ≡ number_in 0 greatest text
 unfolding number_in digits_up_to
-with_plus greatest text h = rw (signed text h, and_right (nat_le 1 (length text) && nat_le (length text) 20) false refl) refl
+with_plus greatest text h =
+    rw (signed text h, and_right (nat_le 1 (length text) && nat_le (length text) 20) false refl) refl
 
 -- a number above the greatest, and one that is not
 over : (greatest n : ℕ) → greatest < n → within_numbers 0 greatest n ≡ None
@@ -35,7 +37,9 @@ at_most : (greatest n : ℕ) → n ≤ greatest → within_numbers 0 greatest n 
 at_most greatest n h = rw (le-leb 0 n (omega arith), le-leb n greatest h) refl
 
 -- what `parse` answers where no sign stands in front
-pub parsed : {E : Type 0} (greatest : ℕ) (text : List ℕ) (r : Result ℕ E) → ParsesUnsigned 64 10 text r → get_or text 0 0 ≢ 43 → length text ≤ 20 → greatest < 2 ^ 64 → number_in 0 greatest text ≡ option_and_then (within_numbers 0 greatest) (result_ok r)
+pub parsed : {E : Type 0} (greatest : ℕ) (text : List ℕ) (r : Result ℕ E) → ParsesUnsigned 64 10 text r
+    → get_or text 0 0 ≢ 43 → length text ≤ 20 → greatest < 2 ^ 64
+    → number_in 0 greatest text ≡ option_and_then (within_numbers 0 greatest) (result_ok r)
 unfolding number_in digits_up_to
 parsed {E} greatest text (Ok n) h plain few small =
     let is = parse_plain own {E = E} 64 text (Ok n) h plain in
@@ -48,16 +52,32 @@ parsed {E} greatest text (Err e) h plain few small =
         | inr other ↦ rw (other, and_right (nat_le 1 (length text) && nat_le (length text) 20) false refl) refl
         | inl digits ↦ (elim (cases_lt (decimal_value text) (2 ^ 64)) [
           | inl narrow ↦ absurd (is_not (digits, some, narrow))
-          | inr wide ↦ rw (le-leb 1 (length text) some, le-leb (length text) 20 few, digits, over greatest (decimal_value text) (omega (arith, wide, small))) refl
+          | inr wide ↦ rw (
+            le-leb 1 (length text) some,
+            le-leb (length text) 20 few,
+            digits,
+            over greatest (decimal_value text) (omega (arith, wide, small)),
+          ) refl
         ])
       ])
     ]
 
-pub answers-none : {E : Type 0} (greatest : ℕ) (text : List ℕ) (r : Result ℕ E) → ParsesUnsigned 64 10 text r → get_or text 0 0 ≢ 43 → length text ≤ 20 → greatest < 2 ^ 64 → None ≡ result_ok r → None ≡ number_in 0 greatest text
-answers-none greatest text r h plain few small e = sym (parsed greatest text r h plain few small ∙ ap (option_and_then (within_numbers 0 greatest)) (sym e))
+pub answers-none : {E : Type 0} (greatest : ℕ) (text : List ℕ) (r : Result ℕ E) → ParsesUnsigned 64 10 text r
+    → get_or text 0 0 ≢ 43 → length text ≤ 20 → greatest < 2 ^ 64 → None ≡ result_ok r
+    → None ≡ number_in 0 greatest text
+answers-none greatest text r h plain few small e =
+    sym (parsed greatest text r h plain few small ∙ ap (option_and_then (within_numbers 0 greatest)) (sym e))
 
-pub answers-over : {E : Type 0} (greatest : ℕ) (text : List ℕ) (r : Result ℕ E) (n : ℕ) → ParsesUnsigned 64 10 text r → get_or text 0 0 ≢ 43 → length text ≤ 20 → greatest < 2 ^ 64 → Some n ≡ result_ok r → greatest < n → None ≡ number_in 0 greatest text
-answers-over greatest text r n h plain few small e above = sym (parsed greatest text r h plain few small ∙ ap (option_and_then (within_numbers 0 greatest)) (sym e) ∙ over greatest n above)
+pub answers-over : {E : Type 0} (greatest : ℕ) (text : List ℕ) (r : Result ℕ E) (n : ℕ) → ParsesUnsigned 64 10 text r
+    → get_or text 0 0 ≢ 43 → length text ≤ 20 → greatest < 2 ^ 64 → Some n ≡ result_ok r → greatest < n
+    → None ≡ number_in 0 greatest text
+answers-over greatest text r n h plain few small e above =
+    sym (parsed greatest text r h plain few small ∙ ap (option_and_then (within_numbers 0 greatest)) (sym e)
+    ∙ over greatest n above)
 
-pub answers : {E : Type 0} (greatest : ℕ) (text : List ℕ) (r : Result ℕ E) (n : ℕ) → ParsesUnsigned 64 10 text r → get_or text 0 0 ≢ 43 → length text ≤ 20 → greatest < 2 ^ 64 → Some n ≡ result_ok r → n ≤ greatest → Some n ≡ number_in 0 greatest text
-answers greatest text r n h plain few small e fits = sym (parsed greatest text r h plain few small ∙ ap (option_and_then (within_numbers 0 greatest)) (sym e) ∙ at_most greatest n fits)
+pub answers : {E : Type 0} (greatest : ℕ) (text : List ℕ) (r : Result ℕ E) (n : ℕ) → ParsesUnsigned 64 10 text r
+    → get_or text 0 0 ≢ 43 → length text ≤ 20 → greatest < 2 ^ 64 → Some n ≡ result_ok r → n ≤ greatest
+    → Some n ≡ number_in 0 greatest text
+answers greatest text r n h plain few small e fits =
+    sym (parsed greatest text r h plain few small ∙ ap (option_and_then (within_numbers 0 greatest)) (sym e)
+    ∙ at_most greatest n fits)

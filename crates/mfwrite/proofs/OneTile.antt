@@ -1,5 +1,6 @@
 -- The members of the one tile, and its bytes.
-use Rattle.std.proofs.Common.{◌≡◌, ℕ, suc, ◌+◌, ◌-◌, ◌*◌, ◌≤◌, List, [], ◌∷◌, ◌++◌, map, length, refl, sym, ap, ◌∙◌, arith, inl, inr, true, false, ◌&&◌, append-nil}
+use Rattle.std.proofs.Common.{◌≡◌, ℕ, suc, ◌+◌, ◌-◌, ◌*◌, ◌≤◌, List, [], ◌∷◌, ◌++◌, map, length, refl, sym, ap, ◌∙◌}
+use Rattle.std.proofs.Common.{arith, inl, inr, true, false, ◌&&◌, append-nil}
 use Rattle.std.specs.Prelude.{Bool, All, nat_le, ◌==◌, cond, fold}
 use Rattle.std.specs.List.Sorted.{IsNonDecreasingBy}
 use Rattle.std.proofs.lemmas.Bool.{cases_Bool, leb-true}
@@ -44,24 +45,31 @@ interval-is w h = λ i. record { base = sym h.base i; min = sym h.min i; max = w
 -- ---- members
 
 -- POIs of one zoom level are in order
-in_order-one : (max : ℕ) (e : Entry) (ns : List FirstNode) → e.zoom ≤ max → in_tile_order (world_tile max).interval (map (feature_told e) ns) ≡ map (feature_told e) ns
+in_order-one : (max : ℕ) (e : Entry) (ns : List FirstNode) → e.zoom ≤ max
+    → in_tile_order (world_tile max).interval (map (feature_told e) ns) ≡ map (feature_told e) ns
 unfolding in_tile_order
 in_order-one max e ns low =
     let interval = (world_tile max).interval in
     let fs = map (feature_told e) ns in
-    (λ i. by_zoom interval (filter-alike is_poi (feature_told e) true (λ n. refl) ns i) ++ by_zoom interval (filter-alike is_way (feature_told e) false (λ n. refl) ns i))
+    (λ i. by_zoom interval (filter-alike is_poi (feature_told e) true (λ n. refl) ns i)
+    ++ by_zoom interval (filter-alike is_way (feature_told e) false (λ n. refl) ns i))
     ∙ (λ i. by_zoom interval fs ++ by_zoom-nil interval i)
     ∙ append-nil (by_zoom interval fs)
-    ∙ flat_map_ext (λ z. of_zoom interval z fs) (λ z. cond (raised_zoom interval e.zoom == z) fs []) (λ z. filter-alike (λ f. raised_zoom interval f.zoom == z) (feature_told e) (raised_zoom interval e.zoom == z) (λ n. refl) ns) (zooms interval)
+    ∙ flat_map_ext (λ z. of_zoom interval z fs) (λ z. cond (raised_zoom interval e.zoom == z) fs [])
+    (λ z. filter-alike (λ f. raised_zoom interval f.zoom == z) (feature_told e) (raised_zoom interval e.zoom == z)
+    (λ n. refl) ns) (zooms interval)
     ∙ once fs (raised_zoom interval e.zoom) (suc max - 0) 0 (omega arith) (omega (arith, low))
 
-pub members-told : (w : FirstWords) → AreFirstWords w → (v : FirstValue) → members (features (mapping w) (entities_told v)) (world_tile w.interval.max) ≡ map (feature_told w.entry) (shown w v)
+pub members-told : (w : FirstWords) → AreFirstWords w → (v : FirstValue)
+    → members (features (mapping w) (entities_told v)) (world_tile w.interval.max)
+    ≡ map (feature_told w.entry) (shown w v)
 unfolding in_tile_order
 members-told w h v =
     let max = w.interval.max in
     ap (λ fs. members fs (world_tile max)) (features-told w h v)
     ∙ world_members max (map (feature_told w.entry) (matching w v))
-    ∙ ap (in_tile_order (world_tile max).interval) (filter-alike (λ f. nat_le f.zoom max && true) (feature_told w.entry) (nat_le w.entry.zoom max && true) (λ n. refl) (matching w v))
+    ∙ ap (in_tile_order (world_tile max).interval) (filter-alike (λ f. nat_le f.zoom max && true) (feature_told w.entry)
+    (nat_le w.entry.zoom max && true) (λ n. refl) (matching w v))
     ∙ elim (cases_Bool (nat_le w.entry.zoom max)) [
       | inl low ↦ rw low (in_order-one max w.entry (matching w v) (leb-true w.entry.zoom max low))
       | inr above ↦ rw above (rw (by_zoom-nil (world_tile max).interval) refl)
@@ -74,9 +82,11 @@ unfolding poi_fields
 stand-for w [] = tt
 stand-for w (n ∷ ns) = (refl, refl, refl, stand-for w ns)
 
-bytes-told : (w : FirstWords) → AreFirstWords w → (v : FirstValue) → tile_bytes (world_tile w.interval.max) (map (feature_told w.entry) (shown w v)) ≡ tile_told w v
+bytes-told : (w : FirstWords) → AreFirstWords w → (v : FirstValue)
+    → tile_bytes (world_tile w.interval.max) (map (feature_told w.entry) (shown w v)) ≡ tile_told w v
 bytes-told w h v =
-    tile-of_first (world_tile w.interval.max) (map (poi_of w) (shown w v)) (map (feature_told w.entry) (shown w v)) (stand-for w (shown w v))
+    tile-of_first (world_tile w.interval.max) (map (poi_of w) (shown w v)) (map (feature_told w.entry) (shown w v))
+    (stand-for w (shown w v))
     ∙ (λ i. first_tile_bytes (interval-is w h i) (corner-world i) (sym (pois-shown w v) i))
 
 pub no-water : (tile : TilePlace) (e : Entry) (ns : List FirstNode) → water tile (map (feature_told e) ns) ≡ false
@@ -84,14 +94,18 @@ unfolding water covers
 no-water tile e [] = refl
 no-water tile e (n ∷ ns) = no-water tile e ns
 
-pub content-told : (w : FirstWords) → AreFirstWords w → (v : FirstValue) → content_of (world_tile w.interval.max) (map (feature_told w.entry) (shown w v)) ≡ record { water = false; bytes = tile_told w v }
+pub content-told : (w : FirstWords) → AreFirstWords w → (v : FirstValue)
+    → content_of (world_tile w.interval.max) (map (feature_told w.entry) (shown w v))
+    ≡ record { water = false; bytes = tile_told w v }
 unfolding content_of
-content-told w h v = λ i. record { water = no-water (world_tile w.interval.max) w.entry (shown w v) i; bytes = bytes-told w h v i }
+content-told w h v =
+    λ i. record { water = no-water (world_tile w.interval.max) w.entry (shown w v) i; bytes = bytes-told w h v i }
 
 pub weight-of_tile : (e : Entry) (ns : List FirstNode) → weight_of_tile (map (feature_told e) ns) ≡ 11 * length ns
 weight-of_tile e ns = sums 0 ns ∙ omega arith
   where
-    sums : (a : ℕ) (xs : List FirstNode) → fold (λ b (f : Feature). b + f.weight) a (map (feature_told e) xs) ≡ a + 11 * length xs
+    sums : (a : ℕ) (xs : List FirstNode)
+        → fold (λ b (f : Feature). b + f.weight) a (map (feature_told e) xs) ≡ a + 11 * length xs
     sums a [] = omega arith
     sums a (x ∷ xs) = sums (a + 11) xs ∙ omega arith
 
@@ -102,7 +116,8 @@ are-members w v = rw (pois-shown w v) (below, level)
   where
     below : All (λ (p : FirstPoi). p.zoom ≤ w.interval.max) (map (poi_of w) (shown w v))
     below = elim (cases_Bool (nat_le w.entry.zoom w.interval.max)) [
-      | inl low ↦ All-map (λ (p : FirstPoi). p.zoom ≤ w.interval.max) (poi_of w) (shown w v) (λ k d l. leb-true w.entry.zoom w.interval.max low)
+      | inl low ↦ All-map (λ (p : FirstPoi). p.zoom ≤ w.interval.max) (poi_of w) (shown w v)
+          (λ k d l. leb-true w.entry.zoom w.interval.max low)
       | inr above ↦ rw above (λ k d l. absurd (omega (arith, l)))
     ]
 

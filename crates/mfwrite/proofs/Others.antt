@@ -1,11 +1,13 @@
 -- Inputs that are not of the first form.
-use Rattle.std.proofs.Common.{◌≡◌, ◌≢◌, ◌⊎◌, inl, inr, ◌<◌, ℕ, List, length, Option, Some, None, arith, ap, sym, ◌∙◌, append-nil, length-append}
+use Rattle.std.proofs.Common.{◌≡◌, ◌≢◌, ◌⊎◌, inl, inr, ◌<◌, ℕ, List, length, Option, Some, None, arith, ap, sym, ◌∙◌}
+use Rattle.std.proofs.Common.{append-nil, length-append}
 use Rattle.mf_edge.specs.Device.{SourceState, Takes, HasNone}
 use Rattle.pbf_frame.specs.FirstForm.{FirstValue, IsFirstForm, first_bytes, first_limit}
 use Rattle.mfwrite.specs.FirstRun.{IsOther}
 
 -- an input of the first form is not one of those
-pub not-other : (v : FirstValue) → IsFirstForm v → (bytes : List ℕ) (old new : SourceState) → old.left ≡ Some (first_bytes v)
+pub not-other : (v : FirstValue) → IsFirstForm v → (bytes : List ℕ) (old new : SourceState)
+    → old.left ≡ Some (first_bytes v)
     → IsOther bytes old new → ⊥
 not-other v form bytes old new told other = no new.left (rw told at other.taken) other.other
   where

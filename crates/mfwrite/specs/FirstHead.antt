@@ -1,4 +1,5 @@
--- The header of a map whose mapping is one entry for nodes, and that has one interval and no optional field: Mapsforge Specification, Binary Map File Format, version 5, on the file header.
+-- The header of a map whose mapping is one entry for nodes, and that has one interval and no optional field: Mapsforge
+-- Specification, Binary Map File Format, version 5, on the file header.
 use Rattle.std.specs.Prelude.{ℕ, [], ◌∷◌, None, false}
 use Rattle.mf_base.specs.Texts.{Text}
 use Rattle.mf_base.specs.declared.tile.Interval.{Interval}
@@ -25,7 +26,8 @@ settings_of head = settings_from head.date head.interval
 
 -- A mapping of one entry for nodes. The entry's zoom and marks stand in no header.
 abbrev pub first_mapping : Text → Text → Mapping
-first_mapping key value = record { poi = record { key = key; value = value; zoom = 0; water = false; label = false } ∷ []; way = [] }
+first_mapping key value =
+    record { poi = record { key = key; value = value; zoom = 0; water = false; label = false } ∷ []; way = [] }
 
 -- the tags of that mapping: `key=value` for POIs, and none for ways
 abbrev pub tag_lists_of : FirstHead → TagLists

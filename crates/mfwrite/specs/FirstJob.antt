@@ -11,7 +11,8 @@ use Rattle.mfwrite.specs.declared.job.Room.{Room}
 
 -- ---- what the words tell
 
--- What three words can tell: a short key and a short value, plain and without marks, zoom levels from 0 to at most 21, and a date.
+-- What three words can tell: a short key and a short value, plain and without marks, zoom levels from 0 to at most 21,
+-- and a date.
 pub record AreFirstWords (w : FirstWords) : Type 0 where
   pub short_key : is_short w.entry.key ≡ true
   pub short_value : is_short w.entry.value ≡ true

@@ -1,5 +1,6 @@
 -- The map that a job of one entry makes of an input of the first form, and its report: this project's profile.
-use Rattle.std.specs.Prelude.{ℕ, ◌+◌, nat_le, Bool, false, ◌&&◌, if◌then◌else◌, List, [], ◌∷◌, ◌++◌, map, filter, length, Option, Some, None, pos, negsuc, bytes_eq}
+use Rattle.std.specs.Prelude.{ℕ, ◌+◌, nat_le, Bool, false, ◌&&◌, if◌then◌else◌, List, [], ◌∷◌, ◌++◌, map, filter}
+use Rattle.std.specs.Prelude.{length, Option, Some, None, pos, negsuc, bytes_eq}
 use Rattle.mf_base.specs.Tags.{Tag}
 use Rattle.mf_base.specs.declared.place.Place.{Place}
 use Rattle.mf_base.specs.declared.place.Rect.{Rect}
@@ -63,4 +64,6 @@ sub_file_told w v = 5 + length (tile_told w v)
 
 -- the header and the index of a map whose one tile has so many bytes
 abbrev pub front_bytes : FirstWords → Rect → ℕ → List ℕ
-front_bytes w box size = header_bytes (settings w) box (tags_listed w) (sub_files (header_size (settings w) (tags_listed w)) ((5 + size) ∷ [])) ++ entry_bytes false 5
+front_bytes w box size =
+    header_bytes (settings w) box (tags_listed w)
+    (sub_files (header_size (settings w) (tags_listed w)) ((5 + size) ∷ [])) ++ entry_bytes false 5

@@ -14,7 +14,8 @@ use Rattle.mfwrite.specs.declared.prepare.Refusal.TheVariants.{NotBuilt, Memory}
 
 -- ---- what a run begins with
 
--- What is prepared for words that tell this: their job, or a refusal, which is that they tell none, or that there is not
+-- What is prepared for words that tell this: their job, or a refusal, which is that they tell none, or that there is
+-- not
 -- enough memory.
 pub record IsPrepared (told : Option FirstWords) (p : Prepared) : Type 0 where
   pub ready : (job : FirstWords) → p ≡ Ready job → told ≡ Some job

@@ -1,5 +1,6 @@
 -- The three words of a job with one entry and one sub-file: this project's profile.
-use Rattle.std.specs.Prelude.{ℕ, Bool, not, ◌&&◌, List, [], ◌∷◌, length, drop, codes, Option, Some, None, option_map, option_and_then, if◌then◌else◌}
+use Rattle.std.specs.Prelude.{ℕ, Bool, not, ◌&&◌, List, [], ◌∷◌, length, drop, codes, Option, Some, None, option_map}
+use Rattle.std.specs.Prelude.{option_and_then, if◌then◌else◌}
 use Rattle.std.specs.Result.{result_ok}
 use Rattle.mf_base.specs.declared.tile.Interval.{Interval}
 use Rattle.mf_base.specs.Texts.{Text, begins, is_among}
@@ -45,7 +46,9 @@ first_entry word = option_and_then told_entry (behind (codes "--poi=") word)
 
 -- the zoom levels of the word `--intervals=0:0:MAX`
 unfoldable pub first_interval : Text → Option Interval
-first_interval word = option_map (λ level. record { base = 0; min = 0; max = level }) (option_and_then zoom_number (behind (codes "--intervals=0:0:") word))
+first_interval word =
+    option_map (λ level. record { base = 0; min = 0; max = level })
+    (option_and_then zoom_number (behind (codes "--intervals=0:0:") word))
 
 -- the last date that a map can have: the end of the year 9999, in milliseconds
 abbrev pub last_date : ℕ

@@ -9,7 +9,12 @@ use Rattle.mfwrite.specs.Shown.{plain_entry}
 
 -- benches from this zoom level on, in one sub-file up to zoom level 7
 abbrev pub benches_from : ℕ → FirstWords
-benches_from zoom = record { entry = plain_entry (codes "amenity") (codes "bench") zoom; interval = record { base = 0; min = 0; max = 7 }; date = 1700000000000 }
+benches_from zoom =
+    record {
+      entry = plain_entry (codes "amenity") (codes "bench") zoom;
+      interval = record { base = 0; min = 0; max = 7 };
+      date = 1700000000000;
+    }
 
 -- nodes with this tag, in the box of one degree each way
 abbrev pub value_of_nodes : Text → Text → List StoredNode → FirstValue

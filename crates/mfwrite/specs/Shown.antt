@@ -42,4 +42,14 @@ fault_status NotBuilt = NOT_BUILT
 
 -- the report that is told: of ways, relations, skipped candidates and water there are none
 abbrev pub report_shown : told.Report → Report
-report_shown r = record { nodes = r.nodes; ways = 0; relations = 0; features = r.features; skipped = 0; tiles = r.tiles; water = 0; bytes = r.bytes; largest = r.largest }
+report_shown r = record {
+  nodes = r.nodes;
+  ways = 0;
+  relations = 0;
+  features = r.features;
+  skipped = 0;
+  tiles = r.tiles;
+  water = 0;
+  bytes = r.bytes;
+  largest = r.largest;
+}

@@ -100,7 +100,8 @@ fn parts_of(text: &str) -> Option<(&str, &str, u8)>
     Some((key, value, zoom as u8))
 }
 
-// Whether an entry may have this key and this value: both are short, the value is its own text, and a map has no field for the key.
+// Whether an entry may have this key and this value: both are short, the value is its own text, and a map has no field
+// for the key.
 fn is_plain_tag(key: &str, value: &str) -> bool
     ensures { result ≡ plain_tag key.now value.now }
 {

@@ -3,7 +3,8 @@
 ghost use Rattle.std.specs.Prelude.{◌≡◌, ℕ, ◌+◌, ◌^◌, ◌≤◌, ◌<◌, ℤ, [], ◌∷◌, ◌++◌, length};
 ghost use Rattle.mf_base.specs.Buffer.{HasRoom, AppendsTo};
 ghost use Rattle.mf_base.specs.Spelling.{big_endian, string};
-ghost use Rattle.map_model.specs.Header.{magic_word, be_signed, box_bytes, middle_bytes, interval_bytes, header_size, header_bytes, sub_files};
+ghost use Rattle.map_model.specs.Header.{magic_word, be_signed, box_bytes, middle_bytes, interval_bytes, header_size};
+ghost use Rattle.map_model.specs.Header.{header_bytes, sub_files};
 ghost use Rattle.mfwrite.specs.FirstHead.{settings_of, tag_lists_of};
 
 use mf_base::fixed::put_be;
@@ -56,7 +57,8 @@ pub fn put_head(out: &mut OutBuf, head: &FirstHead, bounds: &Rect, size: u64)
     requires value { length head.now.value.now ≤ 255 }
     requires size { header_size (settings_of head.now) (tag_lists_of head.now) + size < 2 ^ 63 }
     requires room { HasRoom out.old 617 }
-    ensures appends { AppendsTo out.old out.new (header_bytes (settings_of head.now) bounds.now (tag_lists_of head.now) (sub_files (header_size (settings_of head.now) (tag_lists_of head.now)) (size ∷ []))) }
+    ensures appends { AppendsTo out.old out.new (header_bytes (settings_of head.now) bounds.now (tag_lists_of head.now)
+        (sub_files (header_size (settings_of head.now) (tag_lists_of head.now)) (size ∷ []))) }
     ensures most { length out.new.bytes ≤ length out.old.bytes + 617 }
 {
     let start = head_size(head);
@@ -70,7 +72,8 @@ pub fn put_head(out: &mut OutBuf, head: &FirstHead, bounds: &Rect, size: u64)
 fn put_front(out: &mut OutBuf, after: u64, total: u64, date: u64)
     requires after { after < 2 ^ 32 }
     requires room { HasRoom out.old 44 }
-    ensures appends { AppendsTo out.old out.new (magic_word ++ big_endian 4 after ++ big_endian 4 5 ++ big_endian 8 total ++ big_endian 8 date) }
+    ensures appends { AppendsTo out.old out.new (magic_word ++ big_endian 4 after ++ big_endian 4 5
+        ++ big_endian 8 total ++ big_endian 8 date) }
     ensures most { length out.new.bytes ≤ length out.old.bytes + 44 }
 {
     out.put(b"mapsforge binary OSM");

@@ -27,7 +27,8 @@ pub fn put_entry(out: &mut OutBuf, water: bool, offset: u64)
 /// Puts the index of a sub-file of one tile, whose bytes follow the index.
 pub fn put_index(out: &mut OutBuf, water: bool)
     requires room { HasRoom out.old 5 }
-    ensures appends { (bytes : List ℕ) → AppendsTo out.old out.new (index_bytes (record { water = water; bytes = bytes } ∷ [])) }
+    ensures appends { (bytes : List ℕ)
+        → AppendsTo out.old out.new (index_bytes (record { water = water; bytes = bytes } ∷ [])) }
     ensures most { length out.new.bytes ≤ length out.old.bytes + 5 }
 {
     put_entry(out, water, ENTRY_SIZE);

@@ -47,7 +47,11 @@ impl Model for JobWords {
 
     ghost Value = { FirstWords };
 
-    ghost view = { λ w. record { entry = plain_entry (string_bytes w.key) (string_bytes w.value) w.zoom; interval = w.interval; date = w.date } };
+    ghost view = { λ w. record {
+      entry = plain_entry (string_bytes w.key) (string_bytes w.value) w.zoom;
+      interval = w.interval;
+      date = w.date;
+    } };
 }
 
 /// The memory that a run takes.

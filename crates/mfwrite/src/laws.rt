@@ -15,7 +15,9 @@ ghost use Rattle.mfwrite.specs.FirstMap.{first_map, first_report, matching, pois
 #[tactic(auto, using(crate::proofs::OneMap::map_laws))]
 pub fn one_tile_map()
     ensures map { (w : FirstWords) (v : FirstValue) → AreFirstWords w
-        → first_map w v ≡ header_bytes (settings w) (bounds_told v) (tags_listed w) (sub_files (header_size (settings w) (tags_listed w)) (sub_file_told w v ∷ [])) ++ entry_bytes false 5 ++ tile_told w v }
+        → first_map w v ≡ header_bytes (settings w) (bounds_told v) (tags_listed w)
+        (sub_files (header_size (settings w) (tags_listed w)) (sub_file_told w v ∷ [])) ++ entry_bytes false 5
+        ++ tile_told w v }
 {}
 
 /// The POIs may be the members of a tile of the sub-file, in their order.
@@ -45,9 +47,13 @@ pub fn words_told()
     ensures sound { (words : List (List ℕ)) (w : FirstWords) → first_words words ≡ Some w → AreFirstWords w }
 {}
 
-/// The map and the report are those of the objects and the box that any extract of these bytes tells, and such an input is accepted.
+/// The map and the report are those of the objects and the box that any extract of these bytes tells, and such an input
+/// is accepted.
 pub fn map_of_the_input()
-    ensures map { (w : FirstWords) (v : FirstValue) → IsFirstForm v → first_map w v ≡ map_file (settings w) (mapping w) (bounds_told v) (input_entities (first_bytes v)) }
-    ensures report { (w : FirstWords) (v : FirstValue) → IsFirstForm v → first_report w v ≡ report (settings w) (mapping w) (bounds_told v) (input_entities (first_bytes v)) }
-    ensures accepted { (v : FirstValue) → IsFirstForm v → (input_fault (first_bytes v) ≡ None) × (known_box None (first_bytes v) ≡ Some (bounds_told v)) }
+    ensures map { (w : FirstWords) (v : FirstValue) → IsFirstForm v
+        → first_map w v ≡ map_file (settings w) (mapping w) (bounds_told v) (input_entities (first_bytes v)) }
+    ensures report { (w : FirstWords) (v : FirstValue) → IsFirstForm v
+        → first_report w v ≡ report (settings w) (mapping w) (bounds_told v) (input_entities (first_bytes v)) }
+    ensures accepted { (v : FirstValue) → IsFirstForm v
+        → (input_fault (first_bytes v) ≡ None) × (known_box None (first_bytes v) ≡ Some (bounds_told v)) }
 {}

@@ -1,6 +1,9 @@
 //! The map writer: compiles an extract of OpenStreetMap on standard input into a map on standard output.
 //!
-//! Read `run` first: its contract is what the program promises. `prepare` makes a `job` of the words, which `first_words` reads. `map` reads the input, lists the POIs (`poi_list`) and writes the header (`head`), the index (`index`) and the tile; `status` has the texts, `report` the line of a finished run. `laws` and `rows` are about the definitions.
+//! Read `run` first: its contract is what the program promises. `prepare` makes a `job` of the words, which
+//! `first_words` reads. `map` reads the input, lists the POIs (`poi_list`) and writes the header (`head`), the index
+//! (`index`) and the tile; `status` has the texts, `report` the line of a finished run. `laws` and `rows` are about the
+//! definitions.
 #![tactic(auto)]
 
 mod arguments;

@@ -1,12 +1,14 @@
 //! The map: the input is read, and header, index and tile are written.
 
-ghost use Rattle.std.specs.Prelude.{◌≡◌, ◌≢◌, ◌≤◌, ◌<◌, ◌^◌, ◌+◌, ◌*◌, ◌++◌, [], ◌∷◌, ℕ, List, length, min, max, vec_capacity, IfOk, OnOk, OnErr, Err};
+ghost use Rattle.std.specs.Prelude.{◌≡◌, ◌≢◌, ◌≤◌, ◌<◌, ◌^◌, ◌+◌, ◌*◌, ◌++◌, [], ◌∷◌, ℕ, List, length, min, max};
+ghost use Rattle.std.specs.Prelude.{vec_capacity, IfOk, OnOk, OnErr, Err};
 ghost use Rattle.mf_base.specs.Buffer.{HasRoom, AppendsTo};
 ghost use Rattle.mf_edge.specs.Device.{Took, IsAtEnd, Gained, GainedFront, CountsOne};
 ghost use Rattle.tile_body.specs.FirstTile.{AreMembers, first_tile_bytes};
 ghost use Rattle.pbf_frame.specs.FirstForm.{FirstValue, IsFirstForm, first_limit, nodes_told};
 ghost use Rattle.mfwrite.specs.FirstJob.{AreFirstWords, IsEmptyRoom, most_pois, front_room, tile_room};
-ghost use Rattle.mfwrite.specs.FirstMap.{first_map, first_report, front_bytes, matching, world_corner, pois as pois_told};
+ghost use Rattle.mfwrite.specs.FirstMap.{first_map, first_report, front_bytes, matching, world_corner};
+ghost use Rattle.mfwrite.specs.FirstMap.{pois as pois_told};
 ghost use Rattle.mfwrite.specs.FirstRun.{IsRead, IsOther};
 ghost use Rattle.mfwrite.specs.Shown.{report_shown, words_shown};
 
@@ -54,7 +56,8 @@ pub(crate) fn make_map<S: Source, K: Sink>(
     ensures same_input { result ≢ Err Fault.Read → (S.state input.new).faults ≡ (S.state input.old).faults }
     ensures write { result ≡ Err Fault.Write → CountsOne (K.state output.old).faults (K.state output.new).faults }
     ensures same_output { result ≢ Err Fault.Write → (K.state output.new).faults ≡ (K.state output.old).faults }
-    ensures other { result ≡ Err Fault.NotBuilt → (bytes : List ℕ) × IsOther bytes (S.state input.old) (S.state input.new) }
+    ensures other { result ≡ Err Fault.NotBuilt
+        → (bytes : List ℕ) × IsOther bytes (S.state input.old) (S.state input.new) }
     ensures never { result ≢ Err Fault.Memory }
 
     ensures untouched { OnErr result (result ≢ Err Fault.Write → output.new ≡ output.old) }
@@ -80,7 +83,8 @@ pub(crate) fn make_map<S: Source, K: Sink>(
 // Reads all of an input that is not too long.
 fn read_input<S: Source>(block: &mut Block, input: &mut S) -> Result<(), Fault>
     requires { block.old.capacity ≡ first_limit + 1 }
-    ensures whole { OnOk result (Took (S.state input.old) block.new.bytes (S.state input.new) × IsAtEnd (S.state input.new)) }
+    ensures whole { OnOk result (Took (S.state input.old) block.new.bytes (S.state input.new)
+        × IsAtEnd (S.state input.new)) }
     ensures long { result ≡ Err Fault.NotBuilt
         → Took (S.state input.old) block.new.bytes (S.state input.new) × (first_limit < length block.new.bytes) }
     ensures read { result ≡ Err Fault.Read → CountsOne (S.state input.old).faults (S.state input.new).faults }
@@ -190,7 +194,18 @@ fn write_map<K: Sink>(output: &mut K, front: &[u8], tile: &[u8]) -> Result<u64, 
 // The report on a map of so many bytes.
 fn report_of(counts: Counts, bytes: u64) -> Report
     requires { counts.shown < 2 ^ 32 }
-    ensures { report_shown result ≡ record { nodes = counts.nodes; ways = 0; relations = 0; features = counts.features; skipped = 0; tiles = min 1 counts.shown; water = 0; bytes = bytes; largest = 11 * max (min 1 counts.features) counts.shown } }
+    ensures { report_shown result ≡ record {
+      nodes = counts.nodes;
+      ways = 0;
+      relations = 0;
+      features = counts.features;
+      skipped = 0;
+      tiles = min 1 counts.shown;
+      water = 0;
+      bytes = bytes;
+      largest = 11 * max (min 1
+          counts.features) counts.shown;
+    } }
 {
     Report {
         nodes: counts.nodes,

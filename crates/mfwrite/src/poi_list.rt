@@ -1,6 +1,7 @@
 //! The POIs of an input.
 
-ghost use Rattle.std.specs.Prelude.{◌≡◌, ◌≤◌, ◌<◌, ◌^◌, ◌&&◌, ◌++◌, ◌∷◌, [], true, if◌then◌else◌, length, map, vec_len, vec_capacity};
+ghost use Rattle.std.specs.Prelude.{◌≡◌, ◌≤◌, ◌<◌, ◌^◌, ◌&&◌, ◌++◌, ◌∷◌, [], true, if◌then◌else◌, length, map, vec_len};
+ghost use Rattle.std.specs.Prelude.{vec_capacity};
 ghost use Rattle.pbf_frame.specs.FirstForm.{nodes_told, tag_told};
 ghost use Rattle.mfwrite.specs.FirstMap.{is_tag_of, matching, poi_of, shown_of};
 ghost use Rattle.mfwrite.specs.Shown.{words_shown};
@@ -41,7 +42,8 @@ fn has_tag(input: &FirstInput, words: &FirstWords) -> bool
 // Lists a node that has the wanted tag.
 fn list_node(pois: &mut Vec<FirstPoi>, node: FirstNode, wanted: bool, zoom: u8)
     requires room { (node.tagged && wanted) ≡ true → vec_len pois.old < vec_capacity pois.old }
-    ensures pois { pois.new.items ≡ pois.old.items ++ (if node.tagged && wanted then record { place = node.place; zoom = zoom } ∷ [] else []) }
+    ensures pois { pois.new.items ≡ pois.old.items
+        ++ (if node.tagged && wanted then record { place = node.place; zoom = zoom } ∷ [] else []) }
     ensures capacity { vec_capacity pois.new ≡ vec_capacity pois.old }
 {
     if node.tagged && wanted {

@@ -121,7 +121,8 @@ fn has_tile(map: &[u8], tile: &[u8]) -> bool {
         && sub_file.ends_with(tile)
 }
 
-// Inputs with the words, the tile and the report: the header alone, several nodes, none with a tag, a zoom above the maximum, and another tag.
+// Inputs with the words, the tile and the report: the header alone, several nodes, none with a tag, a zoom above the
+// maximum, and another tag.
 #[test]
 fn maps(rt: HostRuntime) -> Result<(), Fail> {
     let [poi, intervals, date] = WORDS;

@@ -8,7 +8,8 @@ use Rattle.osm_model.specs.Frames.{Content, header, primitive, type_of, IsBlobHe
 use Rattle.osm_model.proofs.TableLaws.{none_fits}
 use Rattle.pbf_frame.specs.FirstForm.{first_limit, number_field, bytes_field, blob_header, blob}
 use Rattle.pbf_frame.proofs.Found.{length-header}
-use Rattle.pbf_frame.proofs.FirstFields.{number_at, bytes_at, spells-number, spells-bytes, one-field, message-with, field-longer, end-shorter}
+use Rattle.pbf_frame.proofs.FirstFields.{number_at, bytes_at, spells-number, spells-bytes, one-field, message-with}
+use Rattle.pbf_frame.proofs.FirstFields.{field-longer, end-shorter}
 
 header-fits : (kind : List ℕ) (size : ℕ) → FitsTable BLOB_HEADER (bytes_at 1 kind ∷ number_at 3 size ∷ [])
 unfolding fields_fault
@@ -18,11 +19,14 @@ blob-fits : (raw : List ℕ) → FitsTable BLOB (bytes_at 1 raw ∷ [])
 unfolding fields_fault
 blob-fits raw = none_fits BLOB (bytes_at 1 raw ∷ []) refl
 
-pub header-is : (kind : List ℕ) (size : ℕ) → length kind < 2 ^ 64 → size < 2 ^ 64 → IsBlobHeader kind size (blob_header kind size)
+pub header-is : (kind : List ℕ) (size : ℕ) → length kind < 2 ^ 64 → size < 2 ^ 64
+    → IsBlobHeader kind size (blob_header kind size)
 unfolding blob_header
 header-is kind size few small = record {
   fields = bytes_at 1 kind ∷ number_at 3 size ∷ [];
-  spelled = message-with (bytes_field 1 kind) (number_field 3 size) (bytes_at 1 kind ∷ []) (number_at 3 size) (one-field (bytes_at 1 kind) (bytes_field 1 kind) (spells-bytes 1 kind (omega arith) (omega arith) few)) (spells-number 3 size (omega arith) (omega arith) small);
+  spelled = message-with (bytes_field 1 kind) (number_field 3 size) (bytes_at 1 kind ∷ []) (number_at 3 size)
+      (one-field (bytes_at 1 kind) (bytes_field 1 kind) (spells-bytes 1 kind (omega arith) (omega arith) few))
+      (spells-number 3 size (omega arith) (omega arith) small);
   fits = header-fits kind size;
   named = refl;
   sized = refl;
@@ -41,13 +45,15 @@ body-is raw small = record {
 -- the Blob of a blob is no longer than the blob
 pub body-shorter : (kind raw : List ℕ) → length (bytes_field 1 raw) ≤ length (blob kind raw)
 unfolding blob
-body-shorter kind raw = let head = blob_header kind (length (bytes_field 1 raw)) in end-shorter (big_endian 4 (length head) ++ head) (bytes_field 1 raw)
+body-shorter kind raw = let head = blob_header kind (length (bytes_field 1 raw)) in
+    end-shorter (big_endian 4 (length head) ++ head) (bytes_field 1 raw)
 
 -- the raw bytes of a blob are fewer than the bytes of the blob
 pub raw-shorter : (kind raw : List ℕ) → length raw < length (blob kind raw)
 raw-shorter kind raw = omega (arith, field-longer 1 raw, body-shorter kind raw)
 
-frame-is : (c : Content) (raw : List ℕ) → length (type_of c) ≤ 64 → length (bytes_field 1 raw) ≤ first_limit → HoldsContent c (bytes_field 1 raw) → SpellsFrame c (blob (type_of c) raw)
+frame-is : (c : Content) (raw : List ℕ) → length (type_of c) ≤ 64 → length (bytes_field 1 raw) ≤ first_limit
+    → HoldsContent c (bytes_field 1 raw) → SpellsFrame c (blob (type_of c) raw)
 unfolding blob
 frame-is c raw few short holds =
     let body = bytes_field 1 raw in
@@ -61,8 +67,14 @@ frame-is c raw few short holds =
       body_holds = holds;
     }
 
-pub header-blob : (raw : List ℕ) → length (blob (codes "OSMHeader") raw) ≤ first_limit → SpellsFrame (header raw) (blob (codes "OSMHeader") raw)
-header-blob raw short = frame-is (header raw) raw (omega arith) (omega (arith, short, body-shorter (codes "OSMHeader") raw)) (body-is raw (omega (arith, short, raw-shorter (codes "OSMHeader") raw)))
+pub header-blob : (raw : List ℕ) → length (blob (codes "OSMHeader") raw) ≤ first_limit
+    → SpellsFrame (header raw) (blob (codes "OSMHeader") raw)
+header-blob raw short =
+    frame-is (header raw) raw (omega arith) (omega (arith, short, body-shorter (codes "OSMHeader") raw))
+    (body-is raw (omega (arith, short, raw-shorter (codes "OSMHeader") raw)))
 
-pub data-blob : (raw : List ℕ) → length (blob (codes "OSMData") raw) ≤ first_limit → SpellsFrame (primitive raw) (blob (codes "OSMData") raw)
-data-blob raw short = frame-is (primitive raw) raw (omega arith) (omega (arith, short, body-shorter (codes "OSMData") raw)) (body-is raw (omega (arith, short, raw-shorter (codes "OSMData") raw)))
+pub data-blob : (raw : List ℕ) → length (blob (codes "OSMData") raw) ≤ first_limit
+    → SpellsFrame (primitive raw) (blob (codes "OSMData") raw)
+data-blob raw short =
+    frame-is (primitive raw) raw (omega arith) (omega (arith, short, body-shorter (codes "OSMData") raw))
+    (body-is raw (omega (arith, short, raw-shorter (codes "OSMData") raw)))

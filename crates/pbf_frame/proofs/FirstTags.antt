@@ -22,8 +22,15 @@ run_for tagged = record { pairs = if tagged then (1, 2) ∷ [] else []; ends = b
 
 -- ---- the packed list
 
-part-packed : (tagged : Bool) (rest ns : List ℕ) → IsPacked rest ns → IsPacked (tag_part tagged ++ rest) (tag_part tagged ++ ns)
-part-packed true rest ns h = (1 ∷ [], 2 ∷ 0 ∷ rest, one-byte 1 (omega arith), (2 ∷ [], 0 ∷ rest, one-byte 2 (omega arith), (0 ∷ [], rest, one-byte 0 (omega arith), h, refl), refl), refl)
+part-packed : (tagged : Bool) (rest ns : List ℕ) → IsPacked rest ns
+    → IsPacked (tag_part tagged ++ rest) (tag_part tagged ++ ns)
+part-packed true rest ns h = (
+  1 ∷ [],
+  2 ∷ 0 ∷ rest,
+  one-byte 1 (omega arith),
+  (2 ∷ [], 0 ∷ rest, one-byte 2 (omega arith), (0 ∷ [], rest, one-byte 0 (omega arith), h, refl), refl),
+  refl,
+)
 part-packed false rest ns h = (0 ∷ [], rest, one-byte 0 (omega arith), h, refl)
 
 tags-packed : (nodes : List StoredNode) → IsPacked (keys_vals nodes) (keys_vals nodes)
@@ -52,19 +59,23 @@ tags-runs [] = refl
 tags-runs (n ∷ nodes) = part-run n.tagged (keys_vals nodes) ∙ ap (λ runs. run_for n.tagged ∷ runs) (tags-runs nodes)
 
 -- keys_vals that are not empty are cut into runs
-part-cut : (tagged : Bool) (rest : List ℕ) → runs_of (tag_part tagged ++ rest) ≡ Some (tag_runs (tag_part tagged ++ rest))
+part-cut : (tagged : Bool) (rest : List ℕ)
+    → runs_of (tag_part tagged ++ rest) ≡ Some (tag_runs (tag_part tagged ++ rest))
 part-cut true rest = refl
 part-cut false rest = refl
 
-pub runs-are : (n : StoredNode) (nodes : List StoredNode) → runs_of (keys_vals (n ∷ nodes)) ≡ Some (runs_for (n ∷ nodes))
+pub runs-are : (n : StoredNode) (nodes : List StoredNode)
+    → runs_of (keys_vals (n ∷ nodes)) ≡ Some (runs_for (n ∷ nodes))
 runs-are n nodes = part-cut n.tagged (keys_vals nodes) ∙ ap Some (tags-runs (n ∷ nodes))
 
 -- ---- the tags
 
-run-told : (key value : Text) (tagged : Bool) → run_tags ([] ∷ key ∷ value ∷ []) (run_for tagged) ≡ Ok (if tagged then (key, value) ∷ [] else [])
+run-told : (key value : Text) (tagged : Bool)
+    → run_tags ([] ∷ key ∷ value ∷ []) (run_for tagged) ≡ Ok (if tagged then (key, value) ∷ [] else [])
 unfolding run_tags
 run-told key value true = refl
 run-told key value false = refl
 
-pub run-tags : (key value : Text) (n : StoredNode) → run_tags ([] ∷ key ∷ value ∷ []) (run_for n.tagged) ≡ Ok (tags_told (Some (key, value)) (node_told n))
+pub run-tags : (key value : Text) (n : StoredNode)
+    → run_tags ([] ∷ key ∷ value ∷ []) (run_for n.tagged) ≡ Ok (tags_told (Some (key, value)) (node_told n))
 run-tags key value n = run-told key value n.tagged

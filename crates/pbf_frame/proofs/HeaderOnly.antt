@@ -81,10 +81,17 @@ behind_left s = signed_field 2 s.right ++ behind_right s
 -- A bbox is its left side, and the others in what follows.
 pub bbox-parts : (bytes : List ℕ) (s : Sides) → bytes ≡ bbox s → bytes ≡ signed_field 1 s.left ++ behind_left s
 unfolding bbox
-bbox-parts bytes s e = e ∙ apart4 (signed_field 1 s.left) (signed_field 2 s.right) (signed_field 3 s.top) (signed_field 4 s.bottom)
+bbox-parts bytes s e =
+    e ∙ apart4 (signed_field 1 s.left) (signed_field 2 s.right) (signed_field 3 s.top) (signed_field 4 s.bottom)
 
 -- The sides that were read, as the code keeps them, are those that were spelled.
-pub sides-are : (s : Sides) (left right top bottom : ℤ) → SidesFit s → left ≡ s.left → right ≡ s.right → top ≡ s.top → bottom ≡ s.bottom
+pub sides-are : (s : Sides) (left right top bottom : ℤ) → SidesFit s → left ≡ s.left → right ≡ s.right → top ≡ s.top
+    → bottom ≡ s.bottom
     → ◌≡◌ {A = Sides} (record { left = kept left; right = kept right; top = kept top; bottom = kept bottom }) s
 sides-are s left right top bottom fit e f g h =
-    rw (e, f, g, h) (rw (to_z-of_z w64 s.left fit.left, to_z-of_z w64 s.right fit.right, to_z-of_z w64 s.top fit.top, to_z-of_z w64 s.bottom fit.bottom) refl)
+    rw (e, f, g, h) (rw (
+      to_z-of_z w64 s.left fit.left,
+      to_z-of_z w64 s.right fit.right,
+      to_z-of_z w64 s.top fit.top,
+      to_z-of_z w64 s.bottom fit.bottom,
+    ) refl)

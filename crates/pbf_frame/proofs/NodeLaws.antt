@@ -1,5 +1,6 @@
 -- Columns spell the nodes that they tell, and begin with the first of them.
-use Rattle.std.proofs.Common.{◌≡◌, ℕ, ◌<◌, ◌≤◌, Bool, true, false, List, [], ◌∷◌, ◌++◌, length, map, refl, sym, ap, subst, ◌∙◌, arith, Option, Some, None}
+use Rattle.std.proofs.Common.{◌≡◌, ℕ, ◌<◌, ◌≤◌, Bool, true, false, List, [], ◌∷◌, ◌++◌, length, map, refl, sym, ap}
+use Rattle.std.proofs.Common.{subst, ◌∙◌, arith, Option, Some, None}
 use Rattle.std.specs.Prelude.{nat_lt, ℤ, pos, nat_abs, ◌-ℤ◌, ◌*ℤ◌, FitsSigned}
 use Rattle.std.specs.Int.{w64}
 use Rattle.std.proofs.lemmas.Int.{ints, to_z-of_z, fits_signed_from_abs, unsigned_abs-mul}
@@ -18,7 +19,8 @@ use Rattle.osm_model.proofs.ColumnLaws.{column_from-cons}
 use Rattle.pbf_wire.proofs.PackedReads.{numbers-nil}
 use Rattle.pbf_frame.specs.declared.stored.StoredNode.{StoredNode}
 use Rattle.pbf_frame.specs.FirstForm.{plain_head, packed, differences, tag_part, dense_nodes, AreFirstNodes}
-use Rattle.pbf_frame.specs.Columns.{ColumnsLeft, whole_columns, column_fields, IsStoredPlace, SpellsNodes, BeginWith, numbers_left, side_by_side, nodes_left, AreNodes}
+use Rattle.pbf_frame.specs.Columns.{ColumnsLeft, whole_columns, column_fields, IsStoredPlace, SpellsNodes, BeginWith}
+use Rattle.pbf_frame.specs.Columns.{numbers_left, side_by_side, nodes_left, AreNodes}
 use Rattle.pbf_frame.proofs.Shortest.{short-spelling}
 use Rattle.pbf_frame.proofs.Found.{kept, lat-near, lon-near}
 use Rattle.pbf_frame.proofs.FirstTags.{keys_vals, run_for, runs_for, tags-runs}
@@ -57,7 +59,8 @@ column_from-nil : (before : ℤ) → running_sums_from before [] ≡ []
 unfolding running_sums
 column_from-nil before = refl
 
-numbers-cons : (z before : ℤ) (rest : List ℕ) → numbers_left before (vbe_unsigned (zigzag_of (z -ℤ before)) ++ rest) ≡ z ∷ numbers_left z rest
+numbers-cons : (z before : ℤ) (rest : List ℕ)
+    → numbers_left before (vbe_unsigned (zigzag_of (z -ℤ before)) ++ rest) ≡ z ∷ numbers_left z rest
 numbers-cons z before rest =
     let d : ℤ = z -ℤ before in
     ap (λ (ns : List ℕ). running_sums_from before (map unzigzag_of ns)) (packed_numbers-cons (zigzag_of d) rest)
@@ -67,8 +70,10 @@ numbers-cons z before rest =
 
 -- a delta column tells its numbers
 numbers-is : (before : ℤ) (zs : List ℤ) → numbers_left before (packed (differences before zs)) ≡ zs
-numbers-is before [] = ap (λ (ns : List ℕ). running_sums_from before (map unzigzag_of ns)) numbers-nil ∙ column_from-nil before
-numbers-is before (z ∷ zs) = numbers-cons z before (packed (differences z zs)) ∙ ap (λ (ys : List ℤ). z ∷ ys) (numbers-is z zs)
+numbers-is before [] =
+    ap (λ (ns : List ℕ). running_sums_from before (map unzigzag_of ns)) numbers-nil ∙ column_from-nil before
+numbers-is before (z ∷ zs) =
+    numbers-cons z before (packed (differences z zs)) ∙ ap (λ (ys : List ℤ). z ∷ ys) (numbers-is z zs)
 
 -- ---- nodes
 
@@ -76,19 +81,24 @@ told_tag : (tagged : Bool) → nat_lt 0 (length (run_for tagged).pairs) ≡ tagg
 told_tag true = refl
 told_tag false = refl
 
-side_by_side-is : (nodes : List StoredNode) → side_by_side (ids_of nodes) (lats_of nodes) (lons_of nodes) (runs_for nodes) ≡ nodes
+side_by_side-is : (nodes : List StoredNode)
+    → side_by_side (ids_of nodes) (lats_of nodes) (lons_of nodes) (runs_for nodes) ≡ nodes
 side_by_side-is [] = refl
 side_by_side-is (n ∷ ns) =
-    ap (λ (t : Bool). record n { tagged = t } ∷ side_by_side (ids_of ns) (lats_of ns) (lons_of ns) (runs_for ns)) (told_tag n.tagged)
+    ap (λ (t : Bool). record n { tagged = t } ∷ side_by_side (ids_of ns) (lats_of ns) (lons_of ns) (runs_for ns))
+    (told_tag n.tagged)
     ∙ ap (λ (ms : List StoredNode). n ∷ ms) (side_by_side-is ns)
 
 -- columns that spell nodes tell them
 pub nodes-are : (c : ColumnsLeft) (nodes : List StoredNode) → SpellsNodes c nodes → nodes_left c ≡ nodes
 unfolding nodes_left
 nodes-are c nodes s =
-    ap (λ (ids : List ℤ). side_by_side ids (numbers_left c.lat c.lats) (numbers_left c.lon c.lons) (tag_runs c.parts)) (ap (numbers_left (pos c.id)) s.ids ∙ numbers-is (pos c.id) (ids_of nodes))
-    ∙ ap (λ (lats : List ℤ). side_by_side (ids_of nodes) lats (numbers_left c.lon c.lons) (tag_runs c.parts)) (ap (numbers_left c.lat) s.lats ∙ numbers-is c.lat (lats_of nodes))
-    ∙ ap (λ (lons : List ℤ). side_by_side (ids_of nodes) (lats_of nodes) lons (tag_runs c.parts)) (ap (numbers_left c.lon) s.lons ∙ numbers-is c.lon (lons_of nodes))
+    ap (λ (ids : List ℤ). side_by_side ids (numbers_left c.lat c.lats) (numbers_left c.lon c.lons) (tag_runs c.parts))
+    (ap (numbers_left (pos c.id)) s.ids ∙ numbers-is (pos c.id) (ids_of nodes))
+    ∙ ap (λ (lats : List ℤ). side_by_side (ids_of nodes) lats (numbers_left c.lon c.lons) (tag_runs c.parts))
+    (ap (numbers_left c.lat) s.lats ∙ numbers-is c.lat (lats_of nodes))
+    ∙ ap (λ (lons : List ℤ). side_by_side (ids_of nodes) (lats_of nodes) lons (tag_runs c.parts))
+    (ap (numbers_left c.lon) s.lons ∙ numbers-is c.lon (lons_of nodes))
     ∙ ap (side_by_side (ids_of nodes) (lats_of nodes) (lons_of nodes)) (ap tag_runs s.parts ∙ tags-runs nodes)
     ∙ side_by_side-is nodes
 
@@ -97,7 +107,8 @@ are-spelled c nodes s = subst (λ (ns : List StoredNode). SpellsNodes c ns) (sym
 
 -- ---- the first node
 
-pub first-node : (c : ColumnsLeft) (n : StoredNode) (ns : List StoredNode) → SpellsNodes c (n ∷ ns) → BeginWith c n (behind n ns)
+pub first-node : (c : ColumnsLeft) (n : StoredNode) (ns : List StoredNode) → SpellsNodes c (n ∷ ns)
+    → BeginWith c n (behind n ns)
 first-node c n ns s = record {
   ids = s.ids;
   lats = s.lats;
@@ -111,21 +122,28 @@ first-node c n ns s = record {
   lon = refl;
 }
 
-pub behind-spelled : (c : ColumnsLeft) (n : StoredNode) (ns : List StoredNode) → SpellsNodes c (n ∷ ns) → SpellsNodes (behind n ns) ns
-behind-spelled c n ns s = record { ids = refl; lats = refl; lons = refl; parts = refl; before = s.sound.2; sound = s.sound.3 }
+pub behind-spelled : (c : ColumnsLeft) (n : StoredNode) (ns : List StoredNode) → SpellsNodes c (n ∷ ns)
+    → SpellsNodes (behind n ns) ns
+behind-spelled c n ns s =
+    record { ids = refl; lats = refl; lons = refl; parts = refl; before = s.sound.2; sound = s.sound.3 }
 
 -- a node before others
-node-before : (c left : ColumnsLeft) (n : StoredNode) (ns : List StoredNode) → IsStoredPlace c.lat c.lon → BeginWith c n left → SpellsNodes left ns → SpellsNodes c (n ∷ ns)
+node-before : (c left : ColumnsLeft) (n : StoredNode) (ns : List StoredNode) → IsStoredPlace c.lat c.lon
+    → BeginWith c n left → SpellsNodes left ns → SpellsNodes c (n ∷ ns)
 node-before c left n ns before b s = record {
-  ids = b.ids ∙ ap (λ (x : List ℕ). vbe_unsigned (zigzag_of (pos n.id -ℤ pos c.id)) ++ x) (s.ids ∙ ap (λ (k : ℕ). packed (differences (pos k) (ids_of ns))) b.id);
-  lats = b.lats ∙ ap (λ (x : List ℕ). vbe_unsigned (zigzag_of (n.lat -ℤ c.lat)) ++ x) (s.lats ∙ ap (λ (z : ℤ). packed (differences z (lats_of ns))) b.lat);
-  lons = b.lons ∙ ap (λ (x : List ℕ). vbe_unsigned (zigzag_of (n.lon -ℤ c.lon)) ++ x) (s.lons ∙ ap (λ (z : ℤ). packed (differences z (lons_of ns))) b.lon);
+  ids = b.ids ∙ ap (λ (x : List ℕ). vbe_unsigned (zigzag_of (pos n.id -ℤ pos c.id)) ++ x) (s.ids
+      ∙ ap (λ (k : ℕ). packed (differences (pos k) (ids_of ns))) b.id);
+  lats = b.lats ∙ ap (λ (x : List ℕ). vbe_unsigned (zigzag_of (n.lat -ℤ c.lat)) ++ x) (s.lats
+      ∙ ap (λ (z : ℤ). packed (differences z (lats_of ns))) b.lat);
+  lons = b.lons ∙ ap (λ (x : List ℕ). vbe_unsigned (zigzag_of (n.lon -ℤ c.lon)) ++ x) (s.lons
+      ∙ ap (λ (z : ℤ). packed (differences z (lons_of ns))) b.lon);
   parts = b.parts ∙ ap (λ (x : List ℕ). tag_part n.tagged ++ x) s.parts;
   before = before;
   sound = (b.rises, b.below, b.place, subst (λ (k : ℕ). AreFirstNodes k ns) b.id s.sound);
 }
 
-pub are-before : (c left : ColumnsLeft) (n : StoredNode) → IsStoredPlace c.lat c.lon → BeginWith c n left → AreNodes left → AreNodes c
+pub are-before : (c left : ColumnsLeft) (n : StoredNode) → IsStoredPlace c.lat c.lon → BeginWith c n left
+    → AreNodes left → AreNodes c
 are-before c left n before b s = are-spelled c (n ∷ nodes_left left) (node-before c left n (nodes_left left) before b s)
 
 pub place-left : (c left : ColumnsLeft) (n : StoredNode) → BeginWith c n left → IsStoredPlace left.lat left.lon
@@ -155,7 +173,8 @@ pub record FirstRead (c : ColumnsLeft) (n : StoredNode) (left : ColumnsLeft) : T
   pub lons : c.lons ≡ vbe_unsigned (zigzag_of (n.lon -ℤ kept c.lon)) ++ left.lons
   pub parts : c.parts ≡ tag_part n.tagged ++ left.parts
 
-front-read : (c left : ColumnsLeft) (n : StoredNode) → IsStoredPlace c.lat c.lon → BeginWith c n left → FirstRead c n left
+front-read : (c left : ColumnsLeft) (n : StoredNode) → IsStoredPlace c.lat c.lon → BeginWith c n left
+    → FirstRead c n left
 front-read c left n before b =
     let lat = near c.lat (lat-near c.lat c.lon before) in
     let lon = near c.lon (lon-near c.lat c.lon before) in
@@ -176,8 +195,10 @@ front-read c left n before b =
     }
 
 -- the same where the columns are another name for these
-pub first-read : (own c left : ColumnsLeft) (n : StoredNode) → own ≡ c → IsStoredPlace c.lat c.lon → BeginWith c n left → FirstRead own n left
-first-read own c left n is before b = subst (λ (v : ColumnsLeft). FirstRead v n left) (sym is) (front-read c left n before b)
+pub first-read : (own c left : ColumnsLeft) (n : StoredNode) → own ≡ c → IsStoredPlace c.lat c.lon → BeginWith c n left
+    → FirstRead own n left
+first-read own c left n is before b =
+    subst (λ (v : ColumnsLeft). FirstRead v n left) (sym is) (front-read c left n before b)
 
 -- ---- the end
 
@@ -189,7 +210,8 @@ pub record AreRead (c : ColumnsLeft) : Type 0 where
   pub parts : c.parts ≡ []
 
 pub read-spelled : (c : ColumnsLeft) → IsStoredPlace c.lat c.lon → AreRead c → SpellsNodes c []
-read-spelled c before r = record { ids = r.ids; lats = r.lats; lons = r.lons; parts = r.parts; before = before; sound = tt }
+read-spelled c before r =
+    record { ids = r.ids; lats = r.lats; lons = r.lons; parts = r.parts; before = before; sound = tt }
 
 none-read : (c : ColumnsLeft) → SpellsNodes c [] → AreRead c
 none-read c s = record { ids = s.ids; lats = s.lats; lons = s.lons; parts = s.parts }
@@ -198,7 +220,13 @@ none-read c s = record { ids = s.ids; lats = s.lats; lons = s.lons; parts = s.pa
 pub none-first : (c left : ColumnsLeft) (n : StoredNode) → c.ids ≡ [] → BeginWith c n left → ⊥
 none-first c left n none b =
     let k = zigzag_of (pos n.id -ℤ pos c.id) in
-    omega (arith, length-vbe-positive 128 0 k (omega arith), length-append (vbe_unsigned k) left.ids, ap length b.ids, ap length none)
+    omega (
+      arith,
+      length-vbe-positive 128 0 k (omega arith),
+      length-append (vbe_unsigned k) left.ids,
+      ap length b.ids,
+      ap length none,
+    )
 
 -- ---- what the reader of the first node tells of all
 
@@ -222,25 +250,33 @@ pub record FirstOf (c : ColumnsLeft) (n : StoredNode) (left : ColumnsLeft) : Typ
   pub nodes : nodes_left c ≡ n ∷ nodes_left left
   pub others : AreNodes left
 
-first_of_them : (c left : ColumnsLeft) (n : StoredNode) (ns : List StoredNode) → BeginWith c n left → Answers c (Some (n, left)) → SpellsNodes c ns → FirstOf c n left
+first_of_them : (c left : ColumnsLeft) (n : StoredNode) (ns : List StoredNode) → BeginWith c n left
+    → Answers c (Some (n, left)) → SpellsNodes c ns → FirstOf c n left
 first_of_them c left n [] b only s = absurd (none-first c left n s.ids b)
 first_of_them c left n (m ∷ ms) b only s =
-    let pair : (n, left) ≡ (m, behind m ms) = same_Some (n, left) (m, behind m ms) (only m (behind m ms) (first-node c m ms s)) in
+    let pair : (n, left) ≡ (m, behind m ms) =
+    same_Some (n, left) (m, behind m ms) (only m (behind m ms) (first-node c m ms s)) in
     subst (λ (p : StoredNode × ColumnsLeft). FirstOf c p.0 p.1) (sym pair) (record {
-      nodes = nodes-are c (m ∷ ms) s ∙ ap (λ (ns : List StoredNode). m ∷ ns) (sym (nodes-are (behind m ms) ms (behind-spelled c m ms s)));
+      nodes = nodes-are c (m ∷ ms) s
+          ∙ ap (λ (ns : List StoredNode). m ∷ ns) (sym (nodes-are (behind m ms) ms (behind-spelled c m ms s)));
       others = are-spelled (behind m ms) ms (behind-spelled c m ms s);
     })
 
-pub first-of : (c left : ColumnsLeft) (n : StoredNode) → BeginWith c n left → Answers c (Some (n, left)) → AreNodes c → FirstOf c n left
+pub first-of : (c left : ColumnsLeft) (n : StoredNode) → BeginWith c n left → Answers c (Some (n, left)) → AreNodes c
+    → FirstOf c n left
 first-of c left n b only s = first_of_them c left n (nodes_left c) b only s
 
 -- ---- whole columns
 
 -- the columns of nodes
 abbrev pub columns_of : List StoredNode → ColumnsLeft
-columns_of nodes = whole_columns (packed (differences (pos 0) (ids_of nodes))) (packed (differences (pos 0) (lats_of nodes))) (packed (differences (pos 0) (lons_of nodes))) (keys_vals nodes)
+columns_of nodes =
+    whole_columns (packed (differences (pos 0) (ids_of nodes))) (packed (differences (pos 0) (lats_of nodes)))
+    (packed (differences (pos 0) (lons_of nodes))) (keys_vals nodes)
 
-pub dense-columns : (nodes : List StoredNode) → dense_nodes nodes ≡ column_fields (columns_of nodes).ids (columns_of nodes).lats (columns_of nodes).lons (columns_of nodes).parts
+pub dense-columns : (nodes : List StoredNode)
+    → dense_nodes nodes ≡ column_fields (columns_of nodes).ids (columns_of nodes).lats (columns_of nodes).lons
+    (columns_of nodes).parts
 unfolding dense_nodes column_fields
 dense-columns nodes = refl
 
@@ -249,9 +285,13 @@ whole-spelled nodes sound = record { ids = refl; lats = refl; lons = refl; parts
 
 -- ---- the answer of the first node
 
-pub off_earth : (answer : Bool) (lat lon : ℤ) (n : StoredNode) → answer ≡ is_coordinate plain_head (kept lat) (kept lon) → answer ≡ false → FitsSigned w64 n.lat → FitsSigned w64 n.lon → lat ≡ n.lat → lon ≡ n.lon → IsStoredPlace n.lat n.lon → ⊥
+pub off_earth : (answer : Bool) (lat lon : ℤ) (n : StoredNode) → answer ≡ is_coordinate plain_head (kept lat) (kept lon)
+    → answer ≡ false → FitsSigned w64 n.lat → FitsSigned w64 n.lon → lat ≡ n.lat → lon ≡ n.lon
+    → IsStoredPlace n.lat n.lon → ⊥
 off_earth answer lat lon n is none f g e h place =
-    let near : answer ≡ true = is ∙ ap (λ (z : ℤ). is_coordinate plain_head (kept z) (kept lon)) e ∙ ap (λ (z : ℤ). is_coordinate plain_head (kept n.lat) (kept z)) h ∙ (rw (to_z-of_z w64 n.lat f, to_z-of_z w64 n.lon g) place) in
+    let near : answer ≡ true = is ∙ ap (λ (z : ℤ). is_coordinate plain_head (kept z) (kept lon)) e
+    ∙ ap (λ (z : ℤ). is_coordinate plain_head (kept n.lat) (kept z)) h
+    ∙ (rw (to_z-of_z w64 n.lat f, to_z-of_z w64 n.lon g) place) in
     both_ways answer none near
 
 pub shorter : (c left : ColumnsLeft) (n : StoredNode) → BeginWith c n left → length left.ids < length c.ids
@@ -259,8 +299,28 @@ shorter c left n b =
     let k = zigzag_of (pos n.id -ℤ pos c.id) in
     omega (arith, length-vbe-positive 128 0 k (omega arith), length-append (vbe_unsigned k) left.ids, ap length b.ids)
 
-pub first-is : (n : StoredNode) (left : ColumnsLeft) (id : ℕ) (lat lon : ℤ) (tagged : Bool) (ids lats lons parts : List ℕ) → FitsSigned w64 n.lat → FitsSigned w64 n.lon
-    → (id ≡ n.id) × (ids ≡ left.ids) → (lat ≡ n.lat) × (lats ≡ left.lats) → (lon ≡ n.lon) × (lons ≡ left.lons) → (tagged ≡ n.tagged) × (parts ≡ left.parts) → left.id ≡ n.id → left.lat ≡ n.lat → left.lon ≡ n.lon
-    → ◌≡◌ {A = StoredNode × ColumnsLeft} (record { id = id; lat = kept lat; lon = kept lon; tagged = tagged }, record { ids = ids; lats = lats; lons = lons; parts = parts; id = id; lat = kept lat; lon = kept lon }) (n, left)
+pub first-is : (n : StoredNode) (left : ColumnsLeft) (id : ℕ) (lat lon : ℤ) (tagged : Bool)
+    (ids lats lons parts : List ℕ) → FitsSigned w64 n.lat → FitsSigned w64 n.lon
+    → (id ≡ n.id) × (ids ≡ left.ids) → (lat ≡ n.lat) × (lats ≡ left.lats) → (lon ≡ n.lon) × (lons ≡ left.lons)
+    → (tagged ≡ n.tagged) × (parts ≡ left.parts) → left.id ≡ n.id → left.lat ≡ n.lat → left.lon ≡ n.lon
+    → ◌≡◌ {A = StoredNode × ColumnsLeft} (
+      record { id = id; lat = kept lat; lon = kept lon; tagged = tagged },
+      record { ids = ids; lats = lats; lons = lons; parts = parts; id = id; lat = kept lat; lon = kept lon },
+    )
+    (n, left)
 first-is n left id lat lon tagged ids lats lons parts f g first second third fourth e h k =
-    rw (first.0, first.1, second.0, second.1, third.0, third.1, fourth.0, fourth.1, to_z-of_z w64 n.lat f, to_z-of_z w64 n.lon g, ← e, ← h, ← k) refl
+    rw (
+      first.0,
+      first.1,
+      second.0,
+      second.1,
+      third.0,
+      third.1,
+      fourth.0,
+      fourth.1,
+      to_z-of_z w64 n.lat f,
+      to_z-of_z w64 n.lon g,
+      ← e,
+      ← h,
+      ← k,
+    ) refl

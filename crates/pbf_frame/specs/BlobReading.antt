@@ -1,5 +1,6 @@
 -- What the steps of reading one blob tell of the bytes that they took from a source. This project's own.
-use Rattle.std.specs.Prelude.{◌≡◌, ◌⊎◌, ℕ, ◌+◌, ◌<◌, ◌≤◌, List, [], ◌∷◌, length, slice_range, Option, Some, None, Result, Ok, Err, IsSome, ⊤}
+use Rattle.std.specs.Prelude.{◌≡◌, ◌⊎◌, ℕ, ◌+◌, ◌<◌, ◌≤◌, List, [], ◌∷◌, length, slice_range, Option, Some, None}
+use Rattle.std.specs.Prelude.{Result, Ok, Err, IsSome, ⊤}
 use Rattle.byteorder.specs.Endian.{big_number}
 use Rattle.mf_base.specs.Spelling.{IsBytes}
 use Rattle.mf_edge.specs.Device.{SourceState, IsAtEnd}
@@ -23,7 +24,8 @@ FailsAt Fails blob old (next_fault.Frame told fault) new = (told ≡ blob) × Ha
 FailsAt Fails blob old next_fault.Read new = ⊤
 
 -- What a step tells: what was taken, by its answer or by its fault.
-abbrev pub Tells : {A : Type 0} → (A → List ℕ → Type 0) → (FrameFault → List ℕ → Type 0) → ℕ → StreamState → Result A NextFault → StreamState → Type 0
+abbrev pub Tells : {A : Type 0} → (A → List ℕ → Type 0) → (FrameFault → List ℕ → Type 0) → ℕ → StreamState
+    → Result A NextFault → StreamState → Type 0
 Tells Holds Fails blob old (Ok x) new = HasTaken (Holds x) old new
 Tells Holds Fails blob old (Err fault) new = FailsAt Fails blob old fault new
 
@@ -46,11 +48,13 @@ pub record HasLength (at size : ℕ) (four : List ℕ) : Type 0 where
 
 -- The bytes are a BlobHeader of this size that tells this.
 abbrev pub HasHead : ℕ → BlobHead → List ℕ → Type 0
-HasHead size head bytes = (length bytes ≡ size) × (kind : List ℕ) × IsKind head.kind kind × (head_of bytes ≡ Ok (kind, head.size))
+HasHead size head bytes =
+    (length bytes ≡ size) × (kind : List ℕ) × IsKind head.kind kind × (head_of bytes ≡ Ok (kind, head.size))
 
 -- The BlobHeader of this size is cut, or is refused.
 abbrev pub HeadFails : ℕ → SourceState → FrameFault → List ℕ → Type 0
-HeadFails size source fault bytes = IsCut 0 size source fault bytes ⊎ ((length bytes ≡ size) × (head_of bytes ≡ Err fault))
+HeadFails size source fault bytes =
+    IsCut 0 size source fault bytes ⊎ ((length bytes ≡ size) × (head_of bytes ≡ Err fault))
 
 -- The bytes are a Blob whose raw bytes are in the block, or one that was passed over.
 abbrev pub HoldsBlob : Option BlobKind → ℕ → List ℕ → Step → List ℕ → Type 0
@@ -64,9 +68,11 @@ HoldsBlob kind at block End bytes = ⊥
 -- The Blob is cut, or is refused, which happens to those alone that are read.
 abbrev pub BlobFails : BlobHead → SourceState → FrameFault → List ℕ → Type 0
 BlobFails head source fault bytes =
-    IsCut 0 head.size source fault bytes ⊎ ((length bytes ≡ head.size) × IsSome head.kind × (raw_bytes bytes ≡ Err fault))
+    IsCut 0 head.size source fault bytes
+    ⊎ ((length bytes ≡ head.size) × IsSome head.kind × (raw_bytes bytes ≡ Err fault))
 
--- What the bytes at a blob's offset spell: nothing at the end of the input, a blob that was passed over, or one whose raw
+-- What the bytes at a blob's offset spell: nothing at the end of the input, a blob that was passed over, or one whose
+-- raw
 -- bytes are in the block.
 abbrev pub SpellsStep : ℕ → List ℕ → SourceState → Step → List ℕ → Type 0
 SpellsStep at block source End bytes = (bytes ≡ []) × IsAtEnd source
@@ -77,7 +83,8 @@ SpellsStep at block source (Kept f) bytes =
 -- What the step over one blob tells.
 abbrev pub TellsBlob : StreamState → List ℕ → Result Step NextFault → StreamState → Type 0
 TellsBlob old block result new =
-    Tells (SpellsStep old.offset block new.source) (λ fault bytes. BeginsNoBlob old.offset fault new.source bytes) old.offset old result new
+    Tells (SpellsStep old.offset block new.source) (λ fault bytes. BeginsNoBlob old.offset fault new.source bytes)
+    old.offset old result new
 
 -- A step went over one blob, which begins below the limit: bytes were taken, and each read took some.
 pub record IsOverBlob (old new : StreamState) : Type 0 where

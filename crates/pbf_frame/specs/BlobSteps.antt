@@ -1,4 +1,5 @@
--- The steps in which a blob is read, and what the reader tells of each: the OpenStreetMap wiki, "PBF Format", on its file format.
+-- The steps in which a blob is read, and what the reader tells of each: the OpenStreetMap wiki, "PBF Format", on its
+-- file format.
 use Rattle.std.specs.Prelude.{◌≡◌, ◌≢◌, ℕ, nat_le, List, slice_range, Option, Some, None, ok_or, Result, Ok, Err, codes}
 use Rattle.mf_base.specs.Steps.{◌>>=◌, require, told_as}
 use Rattle.osm_model.specs.declared.numbers.TheConstants.{BLOB_HEADER_TYPE, BLOB_HEADER_DATASIZE}

@@ -1,4 +1,5 @@
--- The nodes of an input of the first form as entities: this project's profile of the OpenStreetMap wiki, "PBF Format", on nodes.
+-- The nodes of an input of the first form as entities: this project's profile of the OpenStreetMap wiki, "PBF Format",
+-- on nodes.
 use Rattle.std.specs.Prelude.{List, [], map, Option, if◌then◌else◌}
 use Rattle.std.specs.Option.{option_to_list}
 use Rattle.mf_base.specs.Tags.{Tag, Tags}

@@ -1,5 +1,8 @@
--- Inputs of the first form, each as the one spelling of a value: this project's profile of the OpenStreetMap wiki, "PBF Format".
-use Rattle.std.specs.Prelude.{◌≡◌, ◌≢◌, ℕ, ◌+◌, ◌*◌, ◌^◌, ◌<◌, ◌≤◌, Bool, true, false, if◌then◌else◌, List, [], ◌∷◌, ◌++◌, length, map, flat_map, Option, Some, None, option_map, MatchOption, ⊤, ℤ, pos, ◌-ℤ◌, codes}
+-- Inputs of the first form, each as the one spelling of a value: this project's profile of the OpenStreetMap wiki, "PBF
+-- Format".
+use Rattle.std.specs.Prelude.{◌≡◌, ◌≢◌, ℕ, ◌+◌, ◌*◌, ◌^◌, ◌<◌, ◌≤◌, Bool, true, false, if◌then◌else◌, List, [], ◌∷◌}
+use Rattle.std.specs.Prelude.{◌++◌, length, map, flat_map, Option, Some, None, option_map, MatchOption, ⊤, ℤ, pos, ◌-ℤ◌}
+use Rattle.std.specs.Prelude.{codes}
 use Rattle.std.specs.Str.{is_utf8}
 use Rattle.mf_base.specs.declared.place.Rect.{Rect}
 use Rattle.mf_base.specs.Spelling.{vbe_unsigned, zigzag_of, string, big_endian}
@@ -12,13 +15,15 @@ use Rattle.pbf_frame.specs.declared.stored.Sides.{Sides}
 
 -- ---- the value
 
--- What a data blob of the first form holds: the one key, the one value, and nodes, of which some have them as their tag.
+-- What a data blob of the first form holds: the one key, the one value, and nodes, of which some have them as their
+-- tag.
 pub record FirstData : Type 0 where
   pub key : Text
   pub value : Text
   pub nodes : List StoredNode
 
--- What an input of the first form holds: the sides of the box, left, right, top and bottom in nanodegrees, and the data, where there is a data blob.
+-- What an input of the first form holds: the sides of the box, left, right, top and bottom in nanodegrees, and the
+-- data, where there is a data blob.
 pub record FirstValue : Type 0 where
   pub sides : Sides
   pub held : Option FirstData
@@ -41,7 +46,8 @@ bytes_field k bytes = (8 * k + 2) ∷ string bytes
 unfoldable pub blob_header : Text → ℕ → List ℕ
 blob_header kind size = bytes_field 1 kind ++ number_field 3 size
 
--- a blob of a type with its raw bytes: the length of the BlobHeader in four bytes, the highest first, the BlobHeader, and the Blob, which is field 1
+-- a blob of a type with its raw bytes: the length of the BlobHeader in four bytes, the highest first, the BlobHeader,
+-- and the Blob, which is field 1
 unfoldable pub blob : Text → List ℕ → List ℕ
 blob kind raw =
     let body = bytes_field 1 raw in
@@ -54,7 +60,8 @@ bbox s = signed_field 1 s.left ++ signed_field 2 s.right ++ signed_field 3 s.top
 
 -- a HeaderBlock of a bbox and the two required features
 unfoldable pub header_block : Sides → List ℕ
-header_block sides = bytes_field 1 (bbox sides) ++ bytes_field 4 (codes "OsmSchema-V0.6") ++ bytes_field 4 (codes "DenseNodes")
+header_block sides =
+    bytes_field 1 (bbox sides) ++ bytes_field 4 (codes "OsmSchema-V0.6") ++ bytes_field 4 (codes "DenseNodes")
 
 -- a StringTable of the empty text, a key and a value
 unfoldable pub string_table : Text → Text → List ℕ
@@ -123,7 +130,8 @@ IsFirstText text = (is_utf8 text ≡ true) × (text ≢ [])
 -- Ids rise strictly from above `before`, below 2^63, and places are on the earth.
 abbrev pub AreFirstNodes : ℕ → List StoredNode → Type 0
 AreFirstNodes before [] = ⊤
-AreFirstNodes before (n ∷ ns) = (before < n.id) × (n.id < 2 ^ 63) × (is_coordinate plain_head n.lat n.lon ≡ true) × AreFirstNodes n.id ns
+AreFirstNodes before (n ∷ ns) =
+    (before < n.id) × (n.id < 2 ^ 63) × (is_coordinate plain_head n.lat n.lon ≡ true) × AreFirstNodes n.id ns
 
 -- The key and the value are texts and not empty, the key is none of four, and there are nodes with ids from 1.
 pub record IsFirstData (d : FirstData) : Type 0 where
@@ -133,7 +141,8 @@ pub record IsFirstData (d : FirstData) : Type 0 where
   pub some_nodes : d.nodes ≢ []
   pub sound : AreFirstNodes 0 d.nodes
 
--- A value of an input of the first form: the sides are on the earth and in order, the data is as above, and the bytes are not too many.
+-- A value of an input of the first form: the sides are on the earth and in order, the data is as above, and the bytes
+-- are not too many.
 pub record IsFirstForm (v : FirstValue) : Type 0 where
   pub on_earth : AreSides v.sides
   pub sound : MatchOption v.held ⊤ IsFirstData
@@ -143,7 +152,12 @@ pub record IsFirstForm (v : FirstValue) : Type 0 where
 
 -- the box in microdegrees, rounded towards zero
 abbrev pub bounds_told : FirstValue → Rect
-bounds_told v = record { min_lat = micro v.sides.bottom; min_lon = micro v.sides.left; max_lat = micro v.sides.top; max_lon = micro v.sides.right }
+bounds_told v = record {
+  min_lat = micro v.sides.bottom;
+  min_lon = micro v.sides.left;
+  max_lat = micro v.sides.top;
+  max_lon = micro v.sides.right;
+}
 
 -- the key and the value, where there is a data blob
 abbrev pub tag_told : FirstValue → Option Tag

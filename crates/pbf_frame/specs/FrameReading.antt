@@ -1,12 +1,14 @@
 -- What the reader of blobs tells of the bytes that it took from a source. This project's own.
-use Rattle.std.specs.Prelude.{◌≡◌, ◌≢◌, ◌⊎◌, ℕ, ◌+◌, ◌<◌, ◌≤◌, List, [], ◌++◌, length, slice_range, Option, Some, None, option_map, Result, Ok, Err, ⊤}
+use Rattle.std.specs.Prelude.{◌≡◌, ◌≢◌, ◌⊎◌, ℕ, ◌+◌, ◌<◌, ◌≤◌, List, [], ◌++◌, length, slice_range, Option, Some, None}
+use Rattle.std.specs.Prelude.{option_map, Result, Ok, Err, ⊤}
 use Rattle.mf_edge.specs.Device.{SourceState, Took, IsAtEnd}
 use Rattle.mf_edge.specs.Stream.{StreamState, IsWalk}
 use Rattle.osm_model.specs.declared.faults.FrameFault.{FrameFault}
 use Rattle.osm_model.specs.declared.limits.TheConstants.{BLOB_LIMIT, FRAME_LIMIT, OFFSET_LIMIT}
 use Rattle.osm_model.specs.Reading.{Reading, all_read, stops_at, then_reads}
 use Rattle.osm_model.specs.Frames as model
-use Rattle.osm_model.specs.Frames.{Content, header, primitive, unread, SpellsFrame, FrameFaultAt, raw_bytes, frame_front, frames_at, known_frames, PassesOver, LeadsTo}
+use Rattle.osm_model.specs.Frames.{Content, header, primitive, unread, SpellsFrame, FrameFaultAt, raw_bytes}
+use Rattle.osm_model.specs.Frames.{frame_front, frames_at, known_frames, PassesOver, LeadsTo}
 use Rattle.pbf_frame.specs.declared.frame_fault.NextFault.{NextFault}
 use Rattle.pbf_frame.specs.declared.frame_fault.NextFault.TheVariants as next_fault
 use Rattle.pbf_frame.specs.declared.frame.BlobKind.{BlobKind}
@@ -26,7 +28,8 @@ pub record HasTaken (Holds : List ℕ → Type 0) (old new : StreamState) : Type
 -- because the source ends behind them.
 abbrev pub BeginsNoBlob : ℕ → FrameFault → SourceState → List ℕ → Type 0
 BeginsNoBlob at fault source bytes =
-    (bytes ≢ []) × (((more : List ℕ) → frame_front at (bytes ++ more) ≡ Err fault) ⊎ ((frame_front at bytes ≡ Err fault) × IsAtEnd source))
+    (bytes ≢ []) × (((more : List ℕ) → frame_front at (bytes ++ more) ≡ Err fault)
+    ⊎ ((frame_front at bytes ≡ Err fault) × IsAtEnd source))
 
 -- ---- the next blob
 
@@ -69,7 +72,8 @@ TakesBlobs old block (Err (next_fault.Frame told fault)) new =
     HasTaken (FailsBehind old.offset told fault new.source) old new
 TakesBlobs old block (Err next_fault.Read) new = ⊤
 
--- What was answered is the next blob of a known type, or the fault before it, or None at the end of the input. Where the
+-- What was answered is the next blob of a known type, or the fault before it, or None at the end of the input. Where
+-- the
 -- source failed nothing is said.
 abbrev pub IsNext : List ℕ → Result (Option Frame) NextFault → Result (Option model.Frame) FrameFaultAt → Type 0
 IsNext block (Ok found) next = next ≡ Ok (option_map (frame_shown block) found)
@@ -82,7 +86,8 @@ known_at at bytes = let read = frames_at at bytes in record { items = known_fram
 
 -- Of the blobs that were left the first was given, and the others are left; or none was left, and there is no fault, or
 -- this one. Where the source failed nothing is said.
-abbrev pub GivesBlob : List ℕ → Result (Option Frame) NextFault → (before now : Reading model.Frame FrameFaultAt) → Type 0
+abbrev pub GivesBlob : List ℕ → Result (Option Frame) NextFault → (before now : Reading model.Frame FrameFaultAt)
+    → Type 0
 GivesBlob block (Ok (Some f)) before now = before ≡ then_reads (frame_shown block f) now
 GivesBlob block (Ok None) before now = before ≡ all_read
 GivesBlob block (Err (next_fault.Frame at fault)) before now = before ≡ stops_at (record { at = at; fault = fault })
@@ -91,4 +96,5 @@ GivesBlob block (Err next_fault.Read) before now = ⊤
 -- The stream's source has bytes left, and the blobs of them are those of all these but for what was given.
 abbrev pub LeavesBlobs : List ℕ → StreamState → List ℕ → Result (Option Frame) NextFault → StreamState → Type 0
 LeavesBlobs all old block result new =
-    (rest : List ℕ) × (new.source.left ≡ Some rest) × GivesBlob block result (known_at old.offset all) (known_at new.offset rest)
+    (rest : List ℕ) × (new.source.left ≡ Some rest)
+    × GivesBlob block result (known_at old.offset all) (known_at new.offset rest)

@@ -7,7 +7,11 @@ use Rattle.pbf_frame.specs.FirstForm.{FirstValue}
 abbrev pub bench_value : FirstValue
 bench_value = record {
   sides = record { left = negsuc 999999999; right = pos 1000000000; top = pos 1000000000; bottom = negsuc 999999999 };
-  held = Some (record { key = codes "amenity"; value = codes "bench"; nodes = record { id = 1; lat = pos 0; lon = pos 0; tagged = true } ∷ [] });
+  held = Some (record {
+    key = codes "amenity";
+    value = codes "bench";
+    nodes = record { id = 1; lat = pos 0; lon = pos 0; tagged = true } ∷ [];
+  });
 }
 
 -- the same box, and no data blob
@@ -29,6 +33,9 @@ three_value = record {
   });
 }
 
--- its bytes: the differences of the ids are 2, 3 and 65, of the latitudes 10, -30 and 20, of the longitudes 1799999990, -3599999980 and 1799999990
+-- its bytes: the differences of the ids are 2, 3 and 65, of the latitudes 10, -30 and 20, of the longitudes 1799999990,
+-- -3599999980 and 1799999990
 abbrev pub three_benches : List ℕ
-three_benches = header_alone ++ data_blob (len_field 2 (hex "0A 04 04 06 82 01 42 03 14 3B 28 4A 0F EC C7 CE B4 0D D7 8F 9D E9 1A EC C7 CE B4 0D 52 07 01 02 00 00 01 02 00"))
+three_benches = header_alone
+    ++ data_blob (len_field 2
+    (hex "0A 04 04 06 82 01 42 03 14 3B 28 4A 0F EC C7 CE B4 0D D7 8F 9D E9 1A EC C7 CE B4 0D 52 07 01 02 00 00 01 02 00"))

@@ -1,12 +1,14 @@
 //! One blob, read from a stream into a block.
 
-ghost use Rattle.std.specs.Prelude.{◌≡◌, ◌≢◌, ◌+◌, ◌-◌, ◌<◌, ◌≤◌, ◌^◌, ◌∷◌, length, IfOk, IfSome, OnOk, Ok, Err, Some, None};
+ghost use Rattle.std.specs.Prelude.{◌≡◌, ◌≢◌, ◌+◌, ◌-◌, ◌<◌, ◌≤◌, ◌^◌, ◌∷◌, length, IfOk, IfSome, OnOk, Ok, Err, Some};
+ghost use Rattle.std.specs.Prelude.{None};
 ghost use Rattle.byteorder.specs.Endian.{big_number};
 ghost use Rattle.mf_base.specs.Spelling.{IsBytes};
 ghost use Rattle.mf_edge.specs.Stream.{IsStep, FailsWhere, at};
 ghost use Rattle.osm_model.specs.declared.limits.TheConstants.{HEADER_LIMIT, BLOB_LIMIT, FRAME_LIMIT, OFFSET_LIMIT};
 ghost use Rattle.pbf_frame.specs.FrameReading.{BeginsNoBlob, IsInBlock};
-ghost use Rattle.pbf_frame.specs.BlobReading.{Tells, TellsBlob, IsOverBlob, IsCut, IsFirst, HasLength, HasHead, HeadFails, HoldsBlob, BlobFails};
+ghost use Rattle.pbf_frame.specs.BlobReading.{Tells, TellsBlob, IsOverBlob, IsCut, IsFirst, HasLength, HasHead};
+ghost use Rattle.pbf_frame.specs.BlobReading.{HeadFails, HoldsBlob, BlobFails};
 
 use crate::blob_head::{BlobHead, blob_head};
 use crate::blob_raw::raw_place;
@@ -161,7 +163,8 @@ fn read_body<S: Source>(
     requires room { head.size ≤ block.old.capacity }
     requires few { head.size ≤ BLOB_LIMIT }
     requires offset { (at S.state src.old).offset + head.size < 2 ^ 63 }
-    ensures tells { Tells (λ step bytes. (length bytes ≡ head.size) × HoldsBlob head.kind begin block.new.bytes step bytes)
+    ensures tells { Tells (λ step bytes. (length bytes ≡ head.size)
+        × HoldsBlob head.kind begin block.new.bytes step bytes)
         (BlobFails head (at S.state src.new).source) begin (at S.state src.old) result (at S.state src.new) }
 
     ensures place { (f : Frame) → result ≡ Ok (Step.Kept f) → IsInBlock f block.new.bytes }

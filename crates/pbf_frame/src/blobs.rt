@@ -11,7 +11,8 @@ use crate::parts::{behind, counted, field, is_end, is_same, last_field, number_a
 pub(crate) fn blob_of<'a>(bytes: &'a [u8], kind: &[u8]) -> Option<(&'a [u8], &'a [u8])>
     requires { length kind.now ≤ 64 }
     ensures found { IfSome result (λ r. bytes.now ≡ blob kind.now r.0.now ++ r.1.now) }
-    ensures only { (raw : List ℕ) → (rest : List ℕ) → bytes.now ≡ blob kind.now raw ++ rest → IsSomeAnd result (λ r. (r.0.now ≡ raw) × (r.1.now ≡ rest)) }
+    ensures only { (raw : List ℕ) → (rest : List ℕ) → bytes.now ≡ blob kind.now raw ++ rest
+        → IsSomeAnd result (λ r. (r.0.now ≡ raw) × (r.1.now ≡ rest)) }
 {
     let (header, rest) = header_of(bytes)?;
     let size = body_size(header, kind)?;
@@ -26,7 +27,8 @@ pub(crate) fn blob_of<'a>(bytes: &'a [u8], kind: &[u8]) -> Option<(&'a [u8], &'a
 // The BlobHeader at the front, of fewer than 128 bytes, and what follows.
 fn header_of(bytes: &[u8]) -> Option<(&[u8], &[u8])>
     ensures found { IfSome result (λ r. bytes.now ≡ 0 ∷ 0 ∷ 0 ∷ (string r.0.now ++ r.1.now)) }
-    ensures only { (header : List ℕ) → (rest : List ℕ) → bytes.now ≡ 0 ∷ 0 ∷ 0 ∷ (string header ++ rest) → IsSomeAnd result (λ r. (r.0.now ≡ header) × (r.1.now ≡ rest)) }
+    ensures only { (header : List ℕ) → (rest : List ℕ) → bytes.now ≡ 0 ∷ 0 ∷ 0 ∷ (string header ++ rest)
+        → IsSomeAnd result (λ r. (r.0.now ≡ header) × (r.1.now ≡ rest)) }
 {
     counted(behind(behind(behind(bytes, 0)?, 0)?, 0)?)
 }

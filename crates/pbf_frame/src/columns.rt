@@ -1,6 +1,7 @@
 //! The columns of DenseNodes of the first form, read from front to back.
 
-ghost use Rattle.std.specs.Prelude.{◌≡◌, ◌<◌, ◌^◌, ◌++◌, pos, ◌-ℤ◌, ℕ, ℤ, List, [], true, IfSome, IsSomeAnd, Some, FitsSigned, Bool};
+ghost use Rattle.std.specs.Prelude.{◌≡◌, ◌<◌, ◌^◌, ◌++◌, pos, ◌-ℤ◌, ℕ, ℤ, List, [], true, IfSome, IsSomeAnd, Some};
+ghost use Rattle.std.specs.Prelude.{FitsSigned, Bool};
 ghost use Rattle.std.specs.Int.{w64};
 ghost use Rattle.osm_model.specs.Blocks.{is_coordinate};
 ghost use Rattle.mf_base.specs.Spelling.{vbe_unsigned, zigzag_of};
@@ -32,7 +33,15 @@ impl<'a> Model for Columns<'a> {
 
     ghost Value = { ColumnsLeft };
 
-    ghost view = { λ s. record { ids = s.ids.now; lats = s.lats.now; lons = s.lons.now; parts = s.parts.now; id = s.id; lat = s.lat; lon = s.lon } };
+    ghost view = { λ s. record {
+      ids = s.ids.now;
+      lats = s.lats.now;
+      lons = s.lons.now;
+      parts = s.parts.now;
+      id = s.id;
+      lat = s.lat;
+      lon = s.lon;
+    } };
 }
 
 impl<'a> Columns<'a> {
@@ -115,8 +124,10 @@ impl<'a> Columns<'a> {
 
     // No column has anything left.
     fn are_read(&self) -> bool
-        ensures end { result ≡ true → (self.now.ids ≡ []) × (self.now.lats ≡ []) × (self.now.lons ≡ []) × (self.now.parts ≡ []) }
-        ensures only { self.now.ids ≡ [] → self.now.lats ≡ [] → self.now.lons ≡ [] → self.now.parts ≡ [] → result ≡ true }
+        ensures end { result ≡ true → (self.now.ids ≡ []) × (self.now.lats ≡ []) × (self.now.lons ≡ [])
+            × (self.now.parts ≡ []) }
+        ensures only { self.now.ids ≡ [] → self.now.lats ≡ [] → self.now.lons ≡ [] → self.now.parts ≡ []
+            → result ≡ true }
     {
         is_end(self.ids) && is_end(self.lats) && is_end(self.lons) && is_end(self.parts)
     }
@@ -124,8 +135,11 @@ impl<'a> Columns<'a> {
 
 // The next id of the column, which is above the one before, and what follows.
 fn next_id(bytes: &[u8], before: u64) -> Option<(u64, &[u8])>
-    ensures found { IfSome result (λ r. (bytes.now ≡ vbe_unsigned (zigzag_of (pos r.0 -ℤ pos before)) ++ r.1.now) × (before < r.0) × (r.0 < 2 ^ 63)) }
-    ensures only { (id : ℕ) → (rest : List ℕ) → before < id → id < 2 ^ 63 → bytes.now ≡ vbe_unsigned (zigzag_of (pos id -ℤ pos before)) ++ rest → IsSomeAnd result (λ r. (r.0 ≡ id) × (r.1.now ≡ rest)) }
+    ensures found { IfSome result (λ r. (bytes.now ≡ vbe_unsigned (zigzag_of (pos r.0 -ℤ pos before)) ++ r.1.now)
+        × (before < r.0) × (r.0 < 2 ^ 63)) }
+    ensures only { (id : ℕ) → (rest : List ℕ) → before < id → id < 2 ^ 63
+        → bytes.now ≡ vbe_unsigned (zigzag_of (pos id -ℤ pos before)) ++ rest → IsSomeAnd result (λ r. (r.0 ≡ id)
+        × (r.1.now ≡ rest)) }
 {
     let (difference, rest) = signed(bytes)?;
     let rise = rise_of(difference)?;
@@ -152,7 +166,9 @@ fn rise_of(difference: i64) -> Option<u64>
 // The next number of a column of sint64, behind this one, and what follows.
 fn next_number(bytes: &[u8], before: i64) -> Option<(i64, &[u8])>
     ensures found { IfSome result (λ r. bytes.now ≡ vbe_unsigned (zigzag_of (r.0 -ℤ before)) ++ r.1.now) }
-    ensures only { (z : ℤ) → (rest : List ℕ) → FitsSigned w64 z → FitsSigned w64 (z -ℤ before) → bytes.now ≡ vbe_unsigned (zigzag_of (z -ℤ before)) ++ rest → IsSomeAnd result (λ r. (r.0 ≡ z) × (r.1.now ≡ rest)) }
+    ensures only { (z : ℤ) → (rest : List ℕ) → FitsSigned w64 z → FitsSigned w64 (z -ℤ before)
+        → bytes.now ≡ vbe_unsigned (zigzag_of (z -ℤ before)) ++ rest → IsSomeAnd result (λ r. (r.0 ≡ z)
+        × (r.1.now ≡ rest)) }
 {
     let (difference, rest) = signed(bytes)?;
     let number = before.checked_add(difference)?;
@@ -162,7 +178,8 @@ fn next_number(bytes: &[u8], before: i64) -> Option<(i64, &[u8])>
 // Whether the next node of keys_vals has the tag, and what follows.
 fn tag_at(bytes: &[u8]) -> Option<(bool, &[u8])>
     ensures found { IfSome result (λ r. bytes.now ≡ tag_part r.0 ++ r.1.now) }
-    ensures only { (tagged : Bool) → (rest : List ℕ) → bytes.now ≡ tag_part tagged ++ rest → IsSomeAnd result (λ r. (r.0 ≡ tagged) × (r.1.now ≡ rest)) }
+    ensures only { (tagged : Bool) → (rest : List ℕ) → bytes.now ≡ tag_part tagged ++ rest
+        → IsSomeAnd result (λ r. (r.0 ≡ tagged) × (r.1.now ≡ rest)) }
 {
     if let Some(rest) = behind(bytes, 0) {
         return Some((false, rest));

@@ -3,7 +3,8 @@
 ghost use Rattle.std.specs.Prelude.{◌≡◌, ◌≢◌, Bool, true, false, List, ℕ, [], IfSome, IsSomeAnd, Some, map};
 ghost use Rattle.mf_base.specs.Texts.{Text, is_among};
 ghost use Rattle.pbf_frame.specs.declared.stored.StoredNode.{StoredNode};
-ghost use Rattle.pbf_frame.specs.FirstForm.{FirstData, IsFirstData, IsFirstText, AreFirstNodes, primitive_block, string_table, dense_nodes, kept_keys, node_told};
+ghost use Rattle.pbf_frame.specs.FirstForm.{FirstData, IsFirstData, IsFirstText, AreFirstNodes, primitive_block};
+ghost use Rattle.pbf_frame.specs.FirstForm.{string_table, dense_nodes, kept_keys, node_told};
 ghost use Rattle.pbf_frame.specs.Columns.{whole_columns, column_fields, nodes_left, AreNodes};
 
 use crate::columns::Columns;
@@ -65,8 +66,10 @@ pub(crate) fn data_in(raw: &[u8]) -> Option<Data<'_>>
 
 // The key and the value of a StringTable.
 fn texts_in(bytes: &[u8]) -> Option<(&str, &str)>
-    ensures found { IfSome result (λ r. (bytes.now ≡ string_table r.0.now r.1.now) × IsFirstText r.0.now × IsFirstText r.1.now × (is_among kept_keys r.0.now ≡ false)) }
-    ensures only { (key : Text) → (value : Text) → IsFirstText key → IsFirstText value → is_among kept_keys key ≡ false → bytes.now ≡ string_table key value → IsSomeAnd result (λ r. (r.0.now ≡ key) × (r.1.now ≡ value)) }
+    ensures found { IfSome result (λ r. (bytes.now ≡ string_table r.0.now r.1.now) × IsFirstText r.0.now
+        × IsFirstText r.1.now × (is_among kept_keys r.0.now ≡ false)) }
+    ensures only { (key : Text) → (value : Text) → IsFirstText key → IsFirstText value → is_among kept_keys key ≡ false
+        → bytes.now ≡ string_table key value → IsSomeAnd result (λ r. (r.0.now ≡ key) × (r.1.now ≡ value)) }
 {
     let (empty, rest) = field(bytes, 0x0A)?;
     let (first, rest) = field(rest, 0x0A)?;
@@ -104,8 +107,10 @@ fn is_kept(key: &str) -> bool
 
 // The nodes of DenseNodes, as their columns.
 fn nodes_in(bytes: &[u8]) -> Option<Columns<'_>>
-    ensures found { IfSome result (λ c. (bytes.now ≡ dense_nodes (nodes_left c)) × (nodes_left c ≢ []) × AreFirstNodes 0 (nodes_left c) × AreNodes c) }
-    ensures only { (nodes : List StoredNode) → nodes ≢ [] → AreFirstNodes 0 nodes → bytes.now ≡ dense_nodes nodes → IsSomeAnd result (λ c. nodes_left c ≡ nodes) }
+    ensures found { IfSome result (λ c. (bytes.now ≡ dense_nodes (nodes_left c)) × (nodes_left c ≢ [])
+        × AreFirstNodes 0 (nodes_left c) × AreNodes c) }
+    ensures only { (nodes : List StoredNode) → nodes ≢ [] → AreFirstNodes 0 nodes → bytes.now ≡ dense_nodes nodes
+        → IsSomeAnd result (λ c. nodes_left c ≡ nodes) }
 {
     let (ids, lats, lons, parts) = columns_in(bytes)?;
     let columns = Columns::new(ids, lats, lons, parts);
@@ -119,7 +124,9 @@ fn nodes_in(bytes: &[u8]) -> Option<Columns<'_>>
 // The four columns of DenseNodes: ids, latitudes, longitudes and keys_vals.
 fn columns_in(bytes: &[u8]) -> Option<(&[u8], &[u8], &[u8], &[u8])>
     ensures found { IfSome result (λ r. bytes.now ≡ column_fields r.0.now r.1.now r.2.now r.3.now) }
-    ensures only { (ids : List ℕ) → (lats : List ℕ) → (lons : List ℕ) → (parts : List ℕ) → bytes.now ≡ column_fields ids lats lons parts → IsSomeAnd result (λ r. (r.0.now ≡ ids) × (r.1.now ≡ lats) × (r.2.now ≡ lons) × (r.3.now ≡ parts)) }
+    ensures only { (ids : List ℕ) → (lats : List ℕ) → (lons : List ℕ) → (parts : List ℕ)
+        → bytes.now ≡ column_fields ids lats lons parts → IsSomeAnd result (λ r. (r.0.now ≡ ids) × (r.1.now ≡ lats)
+        × (r.2.now ≡ lons) × (r.3.now ≡ parts)) }
 {
     let (ids, rest) = field(bytes, 0x0A)?;
     let (lats, rest) = field(rest, 0x42)?;

@@ -1,7 +1,8 @@
 //! An input of the first form, and its reader.
 
 ghost use Rattle.std.specs.Prelude.{◌≡◌, ◌≢◌, Option, Some, None, ⊤, IfSome, MatchOption, [], map};
-ghost use Rattle.pbf_frame.specs.FirstForm.{FirstData, FirstValue, IsFirstForm, IsFirstData, first_bytes, data_blob, bounds_told, tag_told, nodes_told};
+ghost use Rattle.pbf_frame.specs.FirstForm.{FirstData, FirstValue, IsFirstForm, IsFirstData, first_bytes, data_blob};
+ghost use Rattle.pbf_frame.specs.FirstForm.{bounds_told, tag_told, nodes_told};
 
 use crate::blobs::blob_of;
 use crate::dense::{Data, data_in};
@@ -54,7 +55,8 @@ pub fn first_form(bytes: &[u8]) -> Option<FirstInput<'_>>
 // What the data blob has, where there is one. It is the last blob.
 fn held_in(bytes: &[u8]) -> Option<Option<Data<'_>>>
     ensures found { IfSome result (λ held. (bytes.now ≡ data_blob held) × MatchOption held ⊤ IsFirstData) }
-    ensures only { (held : Option FirstData) → MatchOption held ⊤ IsFirstData → bytes.now ≡ data_blob held → result ≡ Some held }
+    ensures only { (held : Option FirstData) → MatchOption held ⊤ IsFirstData → bytes.now ≡ data_blob held
+        → result ≡ Some held }
 {
     if is_end(bytes) {
         return Some(None);
@@ -182,7 +184,8 @@ mod tests {
         b"\0\0\0\x0b\x0a\x07OSMData\x18\x28\x0a\x26\x0a\x12\x0a\0\x0a\x07amenity\x0a\x05bench\x12\x10\x12\x0e\x0a\x01\x02\x42\x01\0\x4a\x01\0\x52\x03\x01\x02\0\0",
     ];
 
-    // Data blobs of one bench with a long value: what stands before the value, its length, and whether the input is short enough.
+    // Data blobs of one bench with a long value: what stands before the value, its length, and whether the input is
+    // short enough.
     const LONG: [(&[u8], usize, bool); 2] = [
         (
             b"\0\0\0\x0d\x0a\x07OSMData\x18\xa6\xff\x1f\x0a\xa2\xff\x1f\x0a\x8c\xff\x1f\x0a\0\x0a\x07amenity\x0a\xfd\xfe\x1f",

@@ -60,7 +60,8 @@ fn are_in_order(sides: &Sides) -> bool
 
 // The sides are on the earth.
 fn are_on_earth(sides: &Sides) -> bool
-    ensures { result ≡ (keeps_limit LONGITUDE_LIMIT sides.now.left && keeps_limit LONGITUDE_LIMIT sides.now.right && keeps_limit LATITUDE_LIMIT sides.now.top && keeps_limit LATITUDE_LIMIT sides.now.bottom) }
+    ensures { result ≡ (keeps_limit LONGITUDE_LIMIT sides.now.left && keeps_limit LONGITUDE_LIMIT sides.now.right
+        && keeps_limit LATITUDE_LIMIT sides.now.top && keeps_limit LATITUDE_LIMIT sides.now.bottom) }
 {
     is_near(LONGITUDE_LIMIT, sides.left)
         && is_near(LONGITUDE_LIMIT, sides.right)

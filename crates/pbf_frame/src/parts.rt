@@ -1,6 +1,8 @@
-//! The steps of the reader: each takes one thing in its shortest spelling from the front of bytes, and gives what follows.
+//! The steps of the reader: each takes one thing in its shortest spelling from the front of bytes, and gives what
+//! follows.
 
-ghost use Rattle.std.specs.Prelude.{◌≡◌, ℕ, ℤ, List, [], ◌∷◌, ◌++◌, ◌^◌, ◌<◌, ◌≤◌, length, IfSome, IsSomeAnd, true, false, ◌-◌, get_or, FitsSigned};
+ghost use Rattle.std.specs.Prelude.{◌≡◌, ℕ, ℤ, List, [], ◌∷◌, ◌++◌, ◌^◌, ◌<◌, ◌≤◌, length, IfSome, IsSomeAnd, true};
+ghost use Rattle.std.specs.Prelude.{false, ◌-◌, get_or, FitsSigned};
 ghost use Rattle.std.specs.Int.{w64};
 ghost use Rattle.mf_base.specs.Spelling.{vbe_unsigned, zigzag_of, string};
 
@@ -22,7 +24,8 @@ pub(crate) fn behind(bytes: &[u8], byte: u8) -> Option<&[u8]>
 #[tactic(auto, using(crate::proofs::Found::number_steps))]
 pub(crate) fn shortest(bytes: &[u8]) -> Option<(u64, &[u8])>
     ensures found { IfSome result (λ r. bytes.now ≡ vbe_unsigned r.0 ++ r.1.now) }
-    ensures only { (n : ℕ) → (rest : List ℕ) → n < 2 ^ 64 → bytes.now ≡ vbe_unsigned n ++ rest → IsSomeAnd result (λ r. (r.0 ≡ n) × (r.1.now ≡ rest)) }
+    ensures only { (n : ℕ) → (rest : List ℕ) → n < 2 ^ 64 → bytes.now ≡ vbe_unsigned n ++ rest
+        → IsSomeAnd result (λ r. (r.0 ≡ n) × (r.1.now ≡ rest)) }
 {
     match get_varint(bytes, 0) {
         Ok((number, size)) => {
@@ -49,7 +52,8 @@ fn is_long(bytes: &[u8], size: usize) -> bool
 // A sint64 in its shortest spelling.
 pub(crate) fn signed(bytes: &[u8]) -> Option<(i64, &[u8])>
     ensures found { IfSome result (λ r. bytes.now ≡ vbe_unsigned (zigzag_of r.0) ++ r.1.now) }
-    ensures only { (z : ℤ) → (rest : List ℕ) → FitsSigned w64 z → bytes.now ≡ vbe_unsigned (zigzag_of z) ++ rest → IsSomeAnd result (λ r. (r.0 ≡ z) × (r.1.now ≡ rest)) }
+    ensures only { (z : ℤ) → (rest : List ℕ) → FitsSigned w64 z → bytes.now ≡ vbe_unsigned (zigzag_of z) ++ rest
+        → IsSomeAnd result (λ r. (r.0 ≡ z) × (r.1.now ≡ rest)) }
     ensures fits { IfSome result (λ r. FitsSigned w64 r.0) }
 {
     let (number, rest) = shortest(bytes)?;
@@ -76,7 +80,8 @@ pub(crate) fn is_end(bytes: &[u8]) -> bool
 #[tactic(auto, using(crate::proofs::Found::counted_steps))]
 pub(crate) fn counted(bytes: &[u8]) -> Option<(&[u8], &[u8])>
     ensures found { IfSome result (λ r. bytes.now ≡ string r.0.now ++ r.1.now) }
-    ensures only { (text : List ℕ) → (rest : List ℕ) → bytes.now ≡ string text ++ rest → IsSomeAnd result (λ r. (r.0.now ≡ text) × (r.1.now ≡ rest)) }
+    ensures only { (text : List ℕ) → (rest : List ℕ) → bytes.now ≡ string text ++ rest
+        → IsSomeAnd result (λ r. (r.0.now ≡ text) × (r.1.now ≡ rest)) }
 {
     let (size, rest) = shortest(bytes)?;
     if size > rest.len() as u64 {
@@ -89,7 +94,8 @@ pub(crate) fn counted(bytes: &[u8]) -> Option<(&[u8], &[u8])>
 // The bytes of the LEN field with this key.
 pub(crate) fn field(bytes: &[u8], key: u8) -> Option<(&[u8], &[u8])>
     ensures found { IfSome result (λ r. bytes.now ≡ (key ∷ string r.0.now) ++ r.1.now) }
-    ensures only { (text : List ℕ) → (rest : List ℕ) → bytes.now ≡ (key ∷ string text) ++ rest → IsSomeAnd result (λ r. (r.0.now ≡ text) × (r.1.now ≡ rest)) }
+    ensures only { (text : List ℕ) → (rest : List ℕ) → bytes.now ≡ (key ∷ string text) ++ rest
+        → IsSomeAnd result (λ r. (r.0.now ≡ text) × (r.1.now ≡ rest)) }
 {
     counted(behind(bytes, key)?)
 }
@@ -106,7 +112,8 @@ pub(crate) fn last_field(bytes: &[u8], key: u8) -> Option<&[u8]>
 // The number of the VARINT field with this key.
 pub(crate) fn number_at(bytes: &[u8], key: u8) -> Option<(u64, &[u8])>
     ensures found { IfSome result (λ r. bytes.now ≡ (key ∷ vbe_unsigned r.0) ++ r.1.now) }
-    ensures only { (n : ℕ) → (rest : List ℕ) → n < 2 ^ 64 → bytes.now ≡ (key ∷ vbe_unsigned n) ++ rest → IsSomeAnd result (λ r. (r.0 ≡ n) × (r.1.now ≡ rest)) }
+    ensures only { (n : ℕ) → (rest : List ℕ) → n < 2 ^ 64 → bytes.now ≡ (key ∷ vbe_unsigned n) ++ rest
+        → IsSomeAnd result (λ r. (r.0 ≡ n) × (r.1.now ≡ rest)) }
 {
     shortest(behind(bytes, key)?)
 }
@@ -114,7 +121,8 @@ pub(crate) fn number_at(bytes: &[u8], key: u8) -> Option<(u64, &[u8])>
 // The sint64 of the VARINT field with this key.
 pub(crate) fn signed_at(bytes: &[u8], key: u8) -> Option<(i64, &[u8])>
     ensures found { IfSome result (λ r. bytes.now ≡ (key ∷ vbe_unsigned (zigzag_of r.0)) ++ r.1.now) }
-    ensures only { (z : ℤ) → (rest : List ℕ) → FitsSigned w64 z → bytes.now ≡ (key ∷ vbe_unsigned (zigzag_of z)) ++ rest → IsSomeAnd result (λ r. (r.0 ≡ z) × (r.1.now ≡ rest)) }
+    ensures only { (z : ℤ) → (rest : List ℕ) → FitsSigned w64 z → bytes.now ≡ (key ∷ vbe_unsigned (zigzag_of z)) ++ rest
+        → IsSomeAnd result (λ r. (r.0 ≡ z) × (r.1.now ≡ rest)) }
     ensures fits { IfSome result (λ r. FitsSigned w64 r.0) }
 {
     signed(behind(bytes, key)?)

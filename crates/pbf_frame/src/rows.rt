@@ -32,6 +32,17 @@ pub fn header_value_row()
 #[tactic(auto, unfolding(crate::proofs::Compute::compute))]
 pub fn three_value_row()
     ensures spelled { first_bytes three_value ≡ three_benches }
-    ensures nodes { nodes_told three_value ≡ record { id = 2; place = at (pos 1) (pos 179999999); tagged = true } ∷ record { id = 5; place = at (negsuc 1) (negsuc 179999998); tagged = false } ∷ record { id = 70; place = at_zero; tagged = true } ∷ [] }
-    ensures entities { input_entities (first_bytes three_value) ≡ node_at 2 (at (pos 1) (pos 179999999)) bench_tags ∷ node_at 5 (at (negsuc 1) (negsuc 179999998)) [] ∷ node_at 70 at_zero bench_tags ∷ [] }
+    ensures nodes { nodes_told three_value ≡ record {
+      id = 2;
+      place = at (pos 1) (pos 179999999);
+      tagged = true;
+    } ∷ record {
+      id = 5;
+      place = at (negsuc 1) (negsuc
+          179999998);
+      tagged = false;
+    } ∷ record { id = 70; place = at_zero; tagged = true } ∷ [] }
+    ensures entities { input_entities (first_bytes three_value)
+        ≡ node_at 2 (at (pos 1) (pos 179999999)) bench_tags ∷ node_at 5 (at (negsuc 1)
+        (negsuc 179999998)) [] ∷ node_at 70 at_zero bench_tags ∷ [] }
 {}

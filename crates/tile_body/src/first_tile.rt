@@ -8,7 +8,8 @@ ghost use Rattle.feature_model.specs.Features.{Feature};
 ghost use Rattle.map_model.specs.Intervals.{zooms};
 ghost use Rattle.map_model.specs.Layout.{poi_fields_bytes, level_count_bytes};
 ghost use Rattle.map_model.specs.TileBytes.{tile_corner, tile_bytes};
-ghost use Rattle.tile_body.specs.FirstTile.{AreMembers, StandFor, first_poi, first_level, first_tile_bytes, counts_bytes, left_open, pois_bytes};
+ghost use Rattle.tile_body.specs.FirstTile.{AreMembers, StandFor, first_poi, first_level, first_tile_bytes};
+ghost use Rattle.tile_body.specs.FirstTile.{counts_bytes, left_open, pois_bytes};
 
 use mf_base::out_buf::OutBuf;
 use mf_base::place::Place;
@@ -27,12 +28,14 @@ pub struct FirstPoi {
 // What follows a POI's place: the byte of layer 0 and one tag, the tag's id 0, no flags.
 const FIRST_TAG: [u8; 3] = [0x51, 0x00, 0x00];
 
-/// Puts the tile of a base zoom whose members are these POIs: the zoom table, the first-way offset and the POIs. Places and the corner are in microdegrees. Without POIs the tile takes no bytes.
+/// Puts the tile of a base zoom whose members are these POIs: the zoom table, the first-way offset and the POIs. Places
+/// and the corner are in microdegrees. Without POIs the tile takes no bytes.
 pub fn put_pois(out: &mut OutBuf, pois: &[FirstPoi], interval: &Interval, corner: Place)
     requires members { AreMembers interval.now pois.now }
     requires zooms { (interval.now.min ≤ interval.now.max) × (interval.now.max ≤ 21) }
     requires room { HasRoom out.old (13 * length pois.now + 460) }
-    ensures tile { (tile : TilePlace) (fs : List Feature) → tile.interval ≡ interval.now → tile_corner tile ≡ corner → StandFor pois.now fs → AppendsTo out.old out.new (tile_bytes tile fs) }
+    ensures tile { (tile : TilePlace) (fs : List Feature) → tile.interval ≡ interval.now → tile_corner tile ≡ corner
+        → StandFor pois.now fs → AppendsTo out.old out.new (tile_bytes tile fs) }
     ensures appends { AppendsTo out.old out.new (first_tile_bytes interval.now corner pois.now) }
     ensures most { length out.new.bytes ≤ length out.old.bytes + (13 * length pois.now + 450) }
 {
@@ -52,7 +55,8 @@ fn put_zoom_table(out: &mut OutBuf, pois: &[FirstPoi], interval: &Interval, corn
     requires zooms { (interval.now.min ≤ interval.now.max) × (interval.now.max ≤ 21) }
     requires few { 13 * length pois.now < 2 ^ 63 }
     requires room { HasRoom out.old 440 }
-    ensures appends { AppendsTo out.old out.new (flat_map level_count_bytes (map (first_level interval.now pois.now) (zooms interval.now))) }
+    ensures appends { AppendsTo out.old out.new
+        (flat_map level_count_bytes (map (first_level interval.now pois.now) (zooms interval.now))) }
     ensures size { result ≡ length (pois_bytes corner pois.now) }
     ensures most { length out.new.bytes ≤ length out.old.bytes + 440 }
     ensures small { result ≤ 13 * length pois.now }
@@ -70,7 +74,8 @@ fn put_zoom_table(out: &mut OutBuf, pois: &[FirstPoi], interval: &Interval, corn
     size
 }
 
-// Puts so many levels of the zoom table, of which the first has `count` POIs and the others none. It tells how many counted POIs are left for the next level: all where no level is put.
+// Puts so many levels of the zoom table, of which the first has `count` POIs and the others none. It tells how many
+// counted POIs are left for the next level: all where no level is put.
 fn put_levels(out: &mut OutBuf, count: u64, levels: u8) -> u64
     requires fits { count < 2 ^ 63 }
     requires room { HasRoom out.old (20 * levels) }

@@ -152,7 +152,8 @@ const TWO_TABLES: &[u8] =
 const NAME: &[u8] =
     b"\0\0\0\x0b\x0a\x07OSMData\x18%\x0a#\x0a\x0f\x0a\0\x0a\x04name\x0a\x05bench\x12\x10\x12\x0e\x0a\x01\x02B\x01\0J\x01\0R\x03\x01\x02\0";
 
-// A header blob and what follows, with the status: places and sides at the ends of the earth and beyond, an id twice, string tables.
+// A header blob and what follows, with the status: places and sides at the ends of the earth and beyond, an id twice,
+// string tables.
 #[test]
 fn other_blobs(rt: HostRuntime) -> Result<(), Fail> {
     let inputs = [

@@ -139,7 +139,8 @@ fn blobs_in_order(rt: HostRuntime) -> Result<(), Fail> {
     Ok(())
 }
 
-// Bytes that begin with no blob, and the first cause, in the order of the steps; of causes that stand together the one that counts.
+// Bytes that begin with no blob, and the first cause, in the order of the steps; of causes that stand together the one
+// that counts.
 const FAULTS: [(&[u8], FrameFault); 43] = [
     // The length is cut.
     (b"\0", FrameFault::Truncated { have: 1 }),
@@ -314,7 +315,8 @@ fn faults(rt: HostRuntime) -> Result<(), Fail> {
     Ok(())
 }
 
-// Bytes, how many bytes of 0 follow, then more bytes; and what is given. The limits of a BlobHeader and a Blob, and one more.
+// Bytes, how many bytes of 0 follow, then more bytes; and what is given. The limits of a BlobHeader and a Blob, and one
+// more.
 const LONGEST: [(&[u8], usize, &[u8], &str, Option<FrameFault>); 5] = [
     (
         b"\0\0\xFF\xFF\x0A\x07OSMData\x18\x03\x12\xF0\xFF\x03",

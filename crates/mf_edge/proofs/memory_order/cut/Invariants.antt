@@ -6,7 +6,8 @@ use Rattle.mf_edge.proofs.memory_order.cut.Given as goal
 abbrev pub invariant-loop-rest : goal.invariant-loop-rest
 invariant-loop-rest l = record {
   many : length l.bytes ≡ l.width * length l.rows.items + length l.rest;
-  cut : (n : ℕ) → items_of l.rows.items ++ cut_rows l.width n l.rest ≡ cut_rows l.width (length l.rows.items + n) l.bytes;
+  cut : (n : ℕ) → items_of l.rows.items ++ cut_rows l.width n l.rest ≡ cut_rows l.width (length l.rows.items + n)
+      l.bytes;
 }
 
 abbrev pub decreases-loop-rest : goal.decreases-loop-rest

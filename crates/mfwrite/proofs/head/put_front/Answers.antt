@@ -5,5 +5,7 @@ use Rattle.mfwrite.proofs.head.put_front.Goals as goal
 
 pub returns-clause-appends : goal.returns-clause-appends
 returns-clause-appends c =
-    puts-five _ _ _ _ _ _ magic_word (big_endian 4 c.args.after) (big_endian 4 5) (big_endian 8 c.args.total) (big_endian 8 c.args.date) c.put.ensures c.put_be.ensures.appends c.put_be-2.ensures.appends c.put_be-3.ensures.appends
+    puts-five _ _ _ _ _ _ magic_word (big_endian 4 c.args.after) (big_endian 4 5) (big_endian 8 c.args.total)
+    (big_endian 8 c.args.date) c.put.ensures c.put_be.ensures.appends c.put_be-2.ensures.appends
+    c.put_be-3.ensures.appends
     c.put_be-4.ensures.appends

@@ -7,4 +7,6 @@ overflow_sub-start c = let least = head-least c.args.head.now in omega (arith, l
 
 pub returns-clause-appends : goal.returns-clause-appends
 returns-clause-appends c =
-    puts-head _ _ _ _ _ c.args.head.now c.args.bounds.now c.head_size-start.result c.args.size c.head_size-start.ensures.size c.put_front.ensures.appends c.put_box.ensures.appends c.put_middle.ensures.appends c.put_interval.ensures.appends
+    puts-head _ _ _ _ _ c.args.head.now c.args.bounds.now c.head_size-start.result c.args.size
+    c.head_size-start.ensures.size c.put_front.ensures.appends c.put_box.ensures.appends
+    c.put_middle.ensures.appends c.put_interval.ensures.appends

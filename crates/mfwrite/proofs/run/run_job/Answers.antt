@@ -13,7 +13,8 @@ returns g c =
     let f = c.in-Err.fault in
     let words : words_shown c.lent.result ≡ c.args.job = search rules in
     let made = c.in-Err.ensures in
-    let old = seen (g.S.Source.state c.args.input.now) (g.K.Sink.state c.args.output.now) (g.E.Sink.state c.args.say.now) in
+    let old = seen (g.S.Source.state c.args.input.now) (g.K.Sink.state c.args.output.now)
+    (g.E.Sink.state c.args.say.now) in
     let new =
     seen
     (g.S.Source.state c.make_map.new.input)
@@ -42,4 +43,7 @@ returns g c =
       other = λ is. made.other (ap Err is);
       untouched = λ no. ap g.K.Sink.state (made.untouched (λ e. no (err-is _ _ e)));
     } in
-    record { ran = subst (λ s. RunsJob c.args.job old new s) (sym c.status.ensures) (run-failed f c.args.job old new ends (search rules)) }
+    record {
+      ran = subst (λ s. RunsJob c.args.job old new s) (sym c.status.ensures)
+          (run-failed f c.args.job old new ends (search rules));
+    }

@@ -11,7 +11,8 @@ abbrev lats_on : List ℕ → List ℕ → List ℕ → List ℕ
 lats_on lats lons parts = (66 ∷ string lats) ++ lons_on lons parts
 
 pub returns-in_err-ids-clause-only : goal.returns-in_err-ids-clause-only
-returns-in_err-ids-clause-only c ids lats lons parts e = absurd (c.in_err-ids.ensures.only ids (lats_on lats lons parts) (e ∙ columns-apart ids lats lons parts))
+returns-in_err-ids-clause-only c ids lats lons parts e =
+    absurd (c.in_err-ids.ensures.only ids (lats_on lats lons parts) (e ∙ columns-apart ids lats lons parts))
 
 pub returns-in_err-lats-clause-only : goal.returns-in_err-lats-clause-only
 returns-in_err-lats-clause-only c ids lats lons parts e =
@@ -32,9 +33,13 @@ returns-in_err-parts-clause-only c ids lats lons parts e =
     absurd (c.in_err-parts.ensures.only parts behind_lons.1)
 
 pub returns-clause-found : goal.returns-clause-found
-returns-clause-found c = columns-joined _ _ _ _ _ _ _ _ c.in_ok-ids.ensures.found c.in_ok-lats.ensures.found c.in_ok-lons.ensures.found c.in_ok-parts.ensures.found
+returns-clause-found c =
+    columns-joined _ _ _ _ _ _ _ _ c.in_ok-ids.ensures.found c.in_ok-lats.ensures.found c.in_ok-lons.ensures.found
+    c.in_ok-parts.ensures.found
 
 pub returns-clause-only : goal.returns-clause-only
 returns-clause-only c ids lats lons parts e =
-    let same = one_columns _ _ _ _ ids lats lons parts (sym (columns-joined _ _ _ _ _ _ _ _ c.in_ok-ids.ensures.found c.in_ok-lats.ensures.found c.in_ok-lons.ensures.found c.in_ok-parts.ensures.found) ∙ e) in
+    let same = one_columns _ _ _ _ ids lats lons parts
+    (sym (columns-joined _ _ _ _ _ _ _ _ c.in_ok-ids.ensures.found c.in_ok-lats.ensures.found
+    c.in_ok-lons.ensures.found c.in_ok-parts.ensures.found) ∙ e) in
     (same.first, same.second, same.third, same.fourth)

@@ -7,14 +7,16 @@ use Rattle.pbf_frame.proofs.Found.{table-found, text-moved}
 use Rattle.pbf_frame.proofs.OneValue.{one_table}
 use Rattle.pbf_frame.proofs.DataLaws.{table-apart}
 use Rattle.pbf_frame.proofs.dense.texts_in.Goals as goal
-use Rattle.pbf_frame.proofs.dense.texts_in.Goals.{else-is_end-via-then-is_end+else-not-is_kept, else-is_end-via-else-is_end}
+use Rattle.pbf_frame.proofs.dense.texts_in.Goals.{else-is_end-via-then-is_end+else-not-is_kept}
+use Rattle.pbf_frame.proofs.dense.texts_in.Goals.{else-is_end-via-else-is_end}
 
 -- what stands behind the empty text
 abbrev texts_on : List ℕ → List ℕ → List ℕ
 texts_on key value = (10 ∷ string key) ++ (10 ∷ string value)
 
 pub returns-in_err-empty-clause-only : goal.returns-in_err-empty-clause-only
-returns-in_err-empty-clause-only c key value key_text value_text free e = absurd (c.in_err-empty.ensures.only [] (texts_on key value) (e ∙ table-apart key value))
+returns-in_err-empty-clause-only c key value key_text value_text free e =
+    absurd (c.in_err-empty.ensures.only [] (texts_on key value) (e ∙ table-apart key value))
 
 pub returns-in_err-first-clause-only : goal.returns-in_err-first-clause-only
 returns-in_err-first-clause-only c key value key_text value_text free e =
@@ -44,7 +46,8 @@ pub returns-then-not-is_kept-clause-found : goal.returns-then-not-is_kept-clause
 returns-then-not-is_kept-clause-found c =
     let key = c.in_ok-key.ensures.found in
     let value = c.in_ok-value.ensures.found in (
-      table-found _ _ _ _ _ _ _ _ c.in_ok-empty.ensures.found c.in_ok-first.ensures.found c.in_ok-second.ensures.found (c.is_end.ensures.end c.if-is_end.true) key.0 value.0,
+      table-found _ _ _ _ _ _ _ _ c.in_ok-empty.ensures.found c.in_ok-first.ensures.found c.in_ok-second.ensures.found
+          (c.is_end.ensures.end c.if-is_end.true) key.0 value.0,
       text-moved _ _ key,
       text-moved _ _ value,
       search rules,
@@ -52,7 +55,9 @@ returns-then-not-is_kept-clause-found c =
 
 pub returns-then-not-is_kept-clause-only : goal.returns-then-not-is_kept-clause-only
 returns-then-not-is_kept-clause-only c key value key_text value_text free e =
-    let found = table-found _ _ _ _ _ _ _ _ c.in_ok-empty.ensures.found c.in_ok-first.ensures.found c.in_ok-second.ensures.found (c.is_end.ensures.end c.if-is_end.true) c.in_ok-key.ensures.found.0 c.in_ok-value.ensures.found.0 in
+    let found = table-found _ _ _ _ _ _ _ _ c.in_ok-empty.ensures.found c.in_ok-first.ensures.found
+    c.in_ok-second.ensures.found (c.is_end.ensures.end c.if-is_end.true) c.in_ok-key.ensures.found.0
+    c.in_ok-value.ensures.found.0 in
     one_table _ _ key value (sym found ∙ e)
 
 pub returns-else-is_end-clause-only : goal.returns-else-is_end-clause-only
@@ -61,6 +66,7 @@ returns-else-is_end-clause-only c key value key_text value_text free e =
     let first = c.in_ok-first.ensures.only key (10 ∷ string value) empty.1 in
     let key_is : c.in_ok-key.key.now ≡ key = c.in_ok-key.ensures.found.0 ∙ first.0 in
     elim c.else-is_end.branch [
-      | else-is_end-via-then-is_end+else-not-is_kept w ↦ both_ways _ free (ap (is_among kept_keys) (sym key_is) ∙ sym w.is_kept.ensures ∙ w.if-not-is_kept.false)
+      | else-is_end-via-then-is_end+else-not-is_kept w ↦ both_ways _ free (ap (is_among kept_keys) (sym key_is)
+          ∙ sym w.is_kept.ensures ∙ w.if-not-is_kept.false)
       | else-is_end-via-else-is_end w ↦ both_ways _ w.if-is_end.false (c.is_end.ensures.only empty.0)
     ]

@@ -11,7 +11,8 @@ use Rattle.pbf_frame.proofs.NextBlob.{took-passed, takes-blob, takes-fault}
 use Rattle.pbf_frame.proofs.frames.next_blob.Goals as goal
 
 -- how far the offset comes in one blob
-near_after : (m to : ℕ) → m < OFFSET_LIMIT + FRAME_LIMIT → to ≤ m + FRAME_LIMIT → (OFFSET_LIMIT ≤ m → to ≤ m + 1) → to ≤ OFFSET_LIMIT + FRAME_LIMIT
+near_after : (m to : ℕ) → m < OFFSET_LIMIT + FRAME_LIMIT → to ≤ m + FRAME_LIMIT → (OFFSET_LIMIT ≤ m → to ≤ m + 1)
+    → to ≤ OFFSET_LIMIT + FRAME_LIMIT
 near_after m to near far ends = elim (cases_lt m OFFSET_LIMIT) [
   | inl less ↦ omega (arith, less, far)
   | inr not_less ↦ (let one = ends not_less in omega (arith, near, one))
@@ -26,11 +27,13 @@ no_fault r e f = absurd (cc (e, f))
 pub returns-in_err-read_blob-clause-takes : goal.returns-in_err-read_blob-clause-takes
 returns-in_err-read_blob-clause-takes g c =
     let e : c.from_residual.result ≡ Err c.in_err-read_blob.field-0.0 = search rules in
-    takes-fault _ _ _ c.read_blob.new.block.bytes _ _ e c.loop-frame.invariant.0 (c.in_err-read_blob.ensures {u = tt}).tells
+    takes-fault _ _ _ c.read_blob.new.block.bytes _ _ e c.loop-frame.invariant.0
+    (c.in_err-read_blob.ensures {u = tt}).tells
 
 pub returns-in_err-read_blob-clause-near : goal.returns-in_err-read_blob-clause-near
 returns-in_err-read_blob-clause-near g c low =
-    near_after (at g.S.Source.state c.loop-frame.src).offset (at g.S.Source.state c.read_blob.new.src).offset (c.loop-frame.invariant.4 low) c.read_blob.ensures.step.far c.read_blob.ensures.ends
+    near_after (at g.S.Source.state c.loop-frame.src).offset (at g.S.Source.state c.read_blob.new.src).offset
+    (c.loop-frame.invariant.4 low) c.read_blob.ensures.step.far c.read_blob.ensures.ends
 
 pub returns-in_err-read_blob-clause-far : goal.returns-in_err-read_blob-clause-far
 returns-in_err-read_blob-clause-far g c high =
@@ -55,4 +58,5 @@ loop-frame-preserved g c =
 pub returns-in-Kept-clause-takes : goal.returns-in-Kept-clause-takes
 returns-in-Kept-clause-takes g c =
     let is : c.read_blob.result ≡ Ok (Kept c.in-Kept.frame) = c.in_ok-read_blob.was {u = tt} ∙ ap Ok c.in-Kept.is in
-    takes-blob _ _ _ c.read_blob.new.block.bytes c.in-Kept.frame c.loop-frame.invariant.0 (rw is at c.read_blob.ensures.tells)
+    takes-blob _ _ _ c.read_blob.new.block.bytes c.in-Kept.frame c.loop-frame.invariant.0
+    (rw is at c.read_blob.ensures.tells)

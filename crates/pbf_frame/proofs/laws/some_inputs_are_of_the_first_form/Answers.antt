@@ -6,7 +6,14 @@ pub returns-clause-one_bench : goal.returns-clause-one_bench
 unfolding compute
 returns-clause-one_bench c = record {
   on_earth = refl;
-  sound = record { key_text = (refl, λ e. absurd (omega (arith, ap length e))); value_text = (refl, λ e. absurd (omega (arith, ap length e))); free_key = refl; some_nodes = λ e. absurd (omega (arith, ap length e)); sound = (omega arith, omega arith, refl, tt) };
+  sound = record {
+    key_text = (refl, λ e. absurd (omega (arith, ap length e)));
+    value_text = (refl, λ e. absurd (omega (arith, ap length e)));
+    free_key = refl;
+    some_nodes =
+        λ e. absurd (omega (arith, ap length e));
+    sound = (omega arith, omega arith, refl, tt);
+  };
   short = omega arith;
 }
 

@@ -5,7 +5,9 @@ use Rattle.pbf_frame.proofs.PartsOnly.{before-nothing}
 use Rattle.pbf_frame.proofs.parts.last_field.Goals as goal
 
 pub returns-in_err-text-clause-only : goal.returns-in_err-text-clause-only
-returns-in_err-text-clause-only c = rw c.from_residual.ensures (λ text e. c.in_err-text.ensures.only text [] (before-nothing (c.args.key ∷ string text) _ e))
+returns-in_err-text-clause-only c =
+    rw c.from_residual.ensures
+    (λ text e. c.in_err-text.ensures.only text [] (before-nothing (c.args.key ∷ string text) _ e))
 
 pub returns-else-is_empty-clause-only : goal.returns-else-is_empty-clause-only
 returns-else-is_empty-clause-only c = λ text e.

@@ -18,4 +18,5 @@ returns-else-is_long-clause-only c = λ n rest fits e.
     (read.0, (cut-there (vbe_unsigned n) rest _ _ e read.1).1)
 
 pub returns-in-Err-clause-only : goal.returns-in-Err-clause-only
-returns-in-Err-clause-only c = λ n rest fits e. err_is_no_ok _ _ (c.in-Err.ensures.only n (vbe_unsigned n) rest (short-varint n fits) e)
+returns-in-Err-clause-only c =
+    λ n rest fits e. err_is_no_ok _ _ (c.in-Err.ensures.only n (vbe_unsigned n) rest (short-varint n fits) e)

@@ -6,8 +6,10 @@ use Rattle.tile_body.proofs.first_tile.poi_size.Goals as goal
 pub returns-clause-size : goal.returns-clause-size
 returns-clause-size c =
     let all = length-poi c.args.corner c.args.poi in
-    let lat : c.size_vbe_s-lat.result ≡ length (vbe_signed (c.args.poi.place.lat -ℤ c.args.corner.lat)) = search rules in
-    let lon : c.size_vbe_s-lon.result ≡ length (vbe_signed (c.args.poi.place.lon -ℤ c.args.corner.lon)) = search rules in
+    let lat : c.size_vbe_s-lat.result ≡ length (vbe_signed (c.args.poi.place.lat -ℤ c.args.corner.lat)) =
+    search rules in
+    let lon : c.size_vbe_s-lon.result ≡ length (vbe_signed (c.args.poi.place.lon -ℤ c.args.corner.lon)) =
+    search rules in
     omega (arith, all, lat, lon, c.from.ensures)
 
 pub returns-clause-most : goal.returns-clause-most

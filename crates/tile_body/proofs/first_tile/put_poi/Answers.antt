@@ -7,8 +7,10 @@ use Rattle.tile_body.proofs.first_tile.put_poi.Goals as goal
 
 pub returns-clause-appends : goal.returns-clause-appends
 returns-clause-appends c =
-    let lat : AppendsTo c.args.out.now c.put_vbe_s.new.out (vbe_signed (c.args.poi.place.lat -ℤ c.args.corner.lat)) = search rules in
-    let lon : AppendsTo c.put_vbe_s.new.out c.put_vbe_s-2.new.out (vbe_signed (c.args.poi.place.lon -ℤ c.args.corner.lon)) = search rules in
+    let lat : AppendsTo c.args.out.now c.put_vbe_s.new.out (vbe_signed (c.args.poi.place.lat -ℤ c.args.corner.lat)) =
+    search rules in
+    let lon : AppendsTo c.put_vbe_s.new.out c.put_vbe_s-2.new.out
+    (vbe_signed (c.args.poi.place.lon -ℤ c.args.corner.lon)) = search rules in
     puts-poi _ _ _ _ c.args.corner c.args.poi lat lon c.put.ensures
 
 pub returns-clause-most : goal.returns-clause-most

@@ -12,11 +12,13 @@ overflow_add-count c =
 
 pub loop-poi-preserved : goal.loop-poi-preserved
 loop-poi-preserved c =
-    table-step _ _ _ _ _ _ _ _ _ _ _ _ _ _ c.loop-poi-test.true c.loop-poi.invariant c.saturating_sub-levels.ensures c.put_levels-count.ensures.left c.put_levels-count.ensures.appends c.put_levels-count.ensures.most
+    table-step _ _ _ _ _ _ _ _ _ _ _ _ _ _ c.loop-poi-test.true c.loop-poi.invariant c.saturating_sub-levels.ensures
+    c.put_levels-count.ensures.left c.put_levels-count.ensures.appends c.put_levels-count.ensures.most
     c.poi_size-size.ensures.size c.poi_size-size.ensures.most
 
 pub returns-clause-appends : goal.returns-clause-appends
-returns-clause-appends c = table-all _ _ _ _ _ _ _ _ _ _ c.loop-poi-test.false c.loop-poi.invariant c.put_levels.ensures.appends
+returns-clause-appends c =
+    table-all _ _ _ _ _ _ _ _ _ _ c.loop-poi-test.false c.loop-poi.invariant c.put_levels.ensures.appends
 
 pub returns-clause-size : goal.returns-clause-size
 returns-clause-size c = table-size _ _ _ _ _ _ _ _ _ c.loop-poi-test.false c.loop-poi.invariant

@@ -1,4 +1,5 @@
-use Rattle.std.proofs.Common.{◌≡◌, ◌<◌, ◌≢◌, ◌-◌, length, arith, refl, ◌∙◌, replicate, get_or-set_other, get_or-set_same, below_more}
+use Rattle.std.proofs.Common.{◌≡◌, ◌<◌, ◌≢◌, ◌-◌, length, arith, refl, ◌∙◌, replicate, get_or-set_other}
+use Rattle.std.proofs.Common.{get_or-set_same, below_more}
 use Rattle.std.proofs.Math.ListN.{length-set}
 use Rattle.map_model.specs.Mercator.{root_of_scale}
 use Rattle.mercator_rows.proofs.Scales.{first_root, root_of_scale-next}
@@ -10,7 +11,8 @@ loop-i-init c = record { count = refl; each = first_root (replicate 18 432139182
 pub loop-i-preserved : goal.loop-i-preserved
 loop-i-preserved c =
     let before = c.loop-i.invariant.each (c.loop-i.i - 1) (omega arith) in
-    let root : c.isqrt.result ≡ root_of_scale c.loop-i.i = root_of_scale-next c.loop-i.i c.isqrt.result (omega arith) (cc) in
+    let root : c.isqrt.result ≡ root_of_scale c.loop-i.i =
+    root_of_scale-next c.loop-i.i c.isqrt.result (omega arith) (cc) in
     record {
       count = length-set c.loop-i.roots c.loop-i.i c.isqrt.result ∙ c.loop-i.invariant.count;
       each = below_more _ _

@@ -10,10 +10,19 @@ use Rattle.mercator_rows.proofs.rows.Rows.edge.Goals as goal
 pub overflow_cast-result : goal.overflow_cast-result
 overflow_cast-result c =
     let inside : c.args.k < length c.self.inside.edges.items = omega (arith, c.requires, c.self.invariant.count) in
-    record { sfits = omega (arith, c.index.ensures, edges-at c.self.inside.edges.items c.args.k c.index.result.now c.self.invariant inside, north_lat-le c.args.k) }
+    record {
+      sfits = omega (
+        arith,
+        c.index.ensures,
+        edges-at c.self.inside.edges.items c.args.k c.index.result.now
+            c.self.invariant inside,
+        north_lat-le c.args.k,
+      );
+    }
 
 pub returns : goal.returns
 returns c =
     let inside : c.args.k < length c.self.inside.edges.items = omega (arith, c.requires, c.self.invariant.count) in
-    let is : c.index.result.now ≡ north_lat c.args.k = c.index.ensures ∙ edges-at c.self.inside.edges.items c.args.k c.index.result.now c.self.invariant inside in
+    let is : c.index.result.now ≡ north_lat c.args.k =
+    c.index.ensures ∙ edges-at c.self.inside.edges.items c.args.k c.index.result.now c.self.invariant inside in
     ap (cast_signed w32) is ∙ again_32 (pos (north_lat c.args.k)) (omega (arith, north_lat-le c.args.k))

@@ -19,7 +19,8 @@ returns-then-not-is_on_earth-clause-only c n left b =
     let read = first-read _ _ left n c.self.view_is c.requires b in
     let lat = c.in_ok-lat.ensures.only n.lat left.lats read.lat read.lat_more read.lats in
     let lon = c.in_ok-lon.ensures.only n.lon left.lons read.lon read.lon_more read.lons in
-    absurd (off_earth c.is_on_earth.result c.in_ok-lat.lat c.in_ok-lon.lon n c.is_on_earth.ensures c.if-not-is_on_earth.true read.lat read.lon lat.0 lon.0 b.place)
+    absurd (off_earth c.is_on_earth.result c.in_ok-lat.lat c.in_ok-lon.lon n c.is_on_earth.ensures
+    c.if-not-is_on_earth.true read.lat read.lon lat.0 lon.0 b.place)
 
 pub returns-clause-only : goal.returns-clause-only
 returns-clause-only c n left b =
@@ -28,4 +29,5 @@ returns-clause-only c n left b =
     let lat = c.in_ok-lat.ensures.only n.lat left.lats read.lat read.lat_more read.lats in
     let lon = c.in_ok-lon.ensures.only n.lon left.lons read.lon read.lon_more read.lons in
     let tag = c.in_ok-tagged.ensures.only n.tagged left.parts read.parts in
-    ap (λ (p : StoredNode × ColumnsLeft). Some p) (first-is n left _ _ _ _ _ _ _ _ read.lat read.lon id lat lon tag b.id b.lat b.lon)
+    ap (λ (p : StoredNode × ColumnsLeft). Some p) (first-is n left _ _ _ _ _ _ _ _ read.lat read.lon id lat lon tag b.id
+    b.lat b.lon)
