@@ -13,4 +13,5 @@ pub mod Numbers
 pub mod Words
 pub mod Root
 pub mod Ascending
+pub mod PlaceWords
 pub mod Shown

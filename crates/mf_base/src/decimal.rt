@@ -32,10 +32,10 @@ pub fn read_height(bytes: &[u8]) -> Option<i32>
 }
 
 /// Reads a whole number of the words, of one to twenty digits.
-pub fn read_number(text: &str, least: u64, greatest: u64) -> Option<u64>
+pub fn read_number(text: &[u8], least: u64, greatest: u64) -> Option<u64>
     ensures { result ≡ number_in least greatest text.now }
 {
-    let number = number_of(text.as_bytes(), 20)?;
+    let number = number_of(text, 20)?;
     if number < least || greatest < number {
         return None;
     }
@@ -45,11 +45,11 @@ pub fn read_number(text: &str, least: u64, greatest: u64) -> Option<u64>
 /// Reads a whole number of the words, of one to twenty digits with an optional `-` before them. Negative numbers are in
 /// the
 /// range.
-pub fn read_signed(text: &str, least: i32, greatest: i32) -> Option<i32>
+pub fn read_signed(text: &[u8], least: i32, greatest: i32) -> Option<i32>
     requires { least <ℤ pos 0 }
     ensures { result ≡ whole_in least greatest text.now }
 {
-    let (negative, digits) = without_minus(text.as_bytes());
+    let (negative, digits) = without_minus(text);
     let magnitude = number_of(digits, 20)?;
     if magnitude >= 1 << 63 {
         return None;
@@ -207,8 +207,8 @@ mod tests {
     #[test]
     fn numbers_of_words(rt: HostRuntime) {
         for (word, number, signed) in WORDS {
-            assert_eq!(rt; read_number(word, 0, u64::MAX), number, "in {word}");
-            assert_eq!(rt; read_signed(word, -90000000, 90000000), signed, "in {word}");
+            assert_eq!(rt; read_number(word.as_bytes(), 0, u64::MAX), number, "in {word}");
+            assert_eq!(rt; read_signed(word.as_bytes(), -90000000, 90000000), signed, "in {word}");
         }
     }
 }

@@ -16,6 +16,7 @@ pub mod order_laws;
 pub mod out_buf;
 pub mod packed;
 pub mod place;
+pub mod place_words;
 pub mod rows;
 pub mod tag_cursor;
 mod tag_lists;

@@ -32,7 +32,7 @@ pub fn cut_last(text: &str, at: char) -> Option<(&str, &str)>
 }
 
 /// What stands before and after the first of a byte.
-pub(crate) fn cut_bytes(text: &[u8], byte: u8) -> Option<(&[u8], &[u8])>
+pub fn cut_bytes(text: &[u8], byte: u8) -> Option<(&[u8], &[u8])>
     ensures { option_map both_now result ≡ cut_at byte text.now }
 {
     let at = place_of(text, byte)?;
