@@ -1,5 +1,6 @@
 -- Places and rectangles as words, in microdegrees: this project's profile.
-use Rattle.std.specs.Prelude.{ℕ, ◌-◌, ◌^◌, ℤ, pos, negsuc, Bool, ◌&&◌, int_le, Option, Some, None, option_map, option_and_then, if◌then◌else◌}
+use Rattle.std.specs.Prelude.{ℕ, ◌-◌, ◌^◌, ℤ, pos, negsuc, Bool, ◌&&◌, int_le, Option, Some, None, option_map}
+use Rattle.std.specs.Prelude.{option_and_then, if◌then◌else◌}
 use Rattle.mf_base.specs.declared.place.Place.{Place}
 use Rattle.mf_base.specs.declared.place.Rect.{Rect}
 use Rattle.mf_base.specs.Texts.{Text, cut}
@@ -36,4 +37,6 @@ rect_of lat lon high = option_and_then (λ low. option_and_then (rect_between lo
 
 -- the rectangle of `MINLAT,MINLON,MAXLAT,MAXLON`
 unfoldable pub read_rect : Text → Option Rect
-read_rect text = option_and_then (λ (p : Text × Text). option_and_then (λ (q : Text × Text). rect_of p.0 q.0 q.1) (cut comma p.1)) (cut comma text)
+read_rect text =
+    option_and_then (λ (p : Text × Text). option_and_then (λ (q : Text × Text). rect_of p.0 q.0 q.1) (cut comma p.1))
+    (cut comma text)

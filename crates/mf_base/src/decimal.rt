@@ -207,8 +207,16 @@ mod tests {
     #[test]
     fn numbers_of_words(rt: HostRuntime) {
         for (word, number, signed) in WORDS {
-            assert_eq!(rt; read_number(word.as_bytes(), 0, u64::MAX), number, "in {word}");
-            assert_eq!(rt; read_signed(word.as_bytes(), -90000000, 90000000), signed, "in {word}");
+            assert_eq!(rt;
+                read_number(word.as_bytes(), 0, u64::MAX),
+                number,
+                "in {word}"
+            );
+            assert_eq!(rt;
+                read_signed(word.as_bytes(), -90000000, 90000000),
+                signed,
+                "in {word}"
+            );
         }
     }
 }
