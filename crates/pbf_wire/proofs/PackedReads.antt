@@ -1,5 +1,6 @@
 -- The first of whole varints, and how many they are.
-use Rattle.std.proofs.Common.{◌≡◌, ◌<◌, ◌&&◌, ℕ, suc, List, [], ◌∷◌, length, take, drop, get_or, map, refl, sym, ap, ◌∙◌, arith, inl, inr, true, false, cond, Ok, Err, Result, nat_lt}
+use Rattle.std.proofs.Common.{◌≡◌, ◌<◌, ◌&&◌, ℕ, suc, List, [], ◌∷◌, length, take, drop, get_or, map, refl, sym, ap}
+use Rattle.std.proofs.Common.{◌∙◌, arith, inl, inr, true, false, cond, Ok, Err, Result, nat_lt}
 use Rattle.std.specs.List.{list_all, count_by}
 use Rattle.std.proofs.lemmas.Bool.{cases_lt, cases_Bool, lt-ltb, le-ltb}
 use Rattle.std.proofs.lemmas.List.{take-append-drop, nil_from_length}
@@ -24,31 +25,42 @@ pub front-read : (bytes : List ℕ) → read_at 0 (varint_front (drop 0 bytes)) 
 front-read bytes = sym (read_there (varint_front bytes))
 
 -- a byte without the top bit is a varint
-pub front-one : (bytes : List ℕ) (byte : ℕ) → 0 < length bytes → byte ≡ get_or bytes 0 0 → byte < 128 → Ok (byte, 1) ≡ varint_front bytes
-front-one bytes byte some is low = ap (λ n. Ok (n, 1)) (omega arith) ∙ answer-within bytes 0 1 0 byte (read-none bytes) some (omega arith) is low
+pub front-one : (bytes : List ℕ) (byte : ℕ) → 0 < length bytes → byte ≡ get_or bytes 0 0 → byte < 128
+    → Ok (byte, 1) ≡ varint_front bytes
+front-one bytes byte some is low = ap (λ n. Ok (n, 1)) (omega arith)
+    ∙ answer-within bytes 0 1 0 byte (read-none bytes) some (omega arith) is low
 
-first_run_of : (bytes : List ℕ) (n size : ℕ) → varint_front bytes ≡ Ok (n, size) → runs bytes ≡ take size bytes ∷ runs (drop size bytes)
-first_run_of bytes n size e = let found = varint_found bytes n size e in ap runs (sym (take-append-drop size bytes)) ∙ runs-append (take size bytes) (drop size bytes) found.spelled.run
+first_run_of : (bytes : List ℕ) (n size : ℕ) → varint_front bytes ≡ Ok (n, size)
+    → runs bytes ≡ take size bytes ∷ runs (drop size bytes)
+first_run_of bytes n size e = let found = varint_found bytes n size e in ap runs (sym (take-append-drop size bytes))
+    ∙ runs-append (take size bytes) (drop size bytes) found.spelled.run
 
-pub numbers-first : (bytes : List ℕ) (n size : ℕ) → varint_front bytes ≡ Ok (n, size) → packed_numbers bytes ≡ n ∷ packed_numbers (drop size bytes)
+pub numbers-first : (bytes : List ℕ) (n size : ℕ) → varint_front bytes ≡ Ok (n, size)
+    → packed_numbers bytes ≡ n ∷ packed_numbers (drop size bytes)
 numbers-first bytes n size e =
     let found = varint_found bytes n size e in
-    ap (map sevens) (first_run_of bytes n size e) ∙ ap (λ k. k ∷ packed_numbers (drop size bytes)) (sym found.spelled.value)
+    ap (map sevens) (first_run_of bytes n size e)
+    ∙ ap (λ k. k ∷ packed_numbers (drop size bytes)) (sym found.spelled.value)
 
-pub whole-first : (bytes : List ℕ) (n size : ℕ) → varint_front bytes ≡ Ok (n, size) → are_varints bytes ≡ are_varints (drop size bytes)
+pub whole-first : (bytes : List ℕ) (n size : ℕ) → varint_front bytes ≡ Ok (n, size)
+    → are_varints bytes ≡ are_varints (drop size bytes)
 whole-first bytes n size e =
     let found = varint_found bytes n size e in
-    ap (list_all is_varint) (first_run_of bytes n size e) ∙ ap (λ b. b && are_varints (drop size bytes)) (varint_is n (take size bytes) found.spelled)
+    ap (list_all is_varint) (first_run_of bytes n size e)
+    ∙ ap (λ b. b && are_varints (drop size bytes)) (varint_is n (take size bytes) found.spelled)
 
 -- whole varints begin with one, unless there is none
 no_packed : (bytes ns : List ℕ) (fault : VarintFault) → IsPacked bytes ns → varint_front bytes ≡ Err fault → bytes ≡ []
 no_packed bytes [] fault e f = e
-no_packed bytes (n ∷ ns) fault (front, rest, v, more, whole) f = absurd (err_is_no_ok _ _ (sym f ∙ ap varint_front whole ∙ varint_reads n front rest v))
+no_packed bytes (n ∷ ns) fault (front, rest, v, more, whole) f =
+    absurd (err_is_no_ok _ _ (sym f ∙ ap varint_front whole ∙ varint_reads n front rest v))
 
-pub whole-end : (bytes : List ℕ) (fault : VarintFault) → are_varints bytes ≡ true → varint_front bytes ≡ Err fault → bytes ≡ []
+pub whole-end : (bytes : List ℕ) (fault : VarintFault) → are_varints bytes ≡ true → varint_front bytes ≡ Err fault
+    → bytes ≡ []
 whole-end bytes fault whole f = no_packed bytes (packed_numbers bytes) fault (packed_found bytes whole) f
 
-pub whole-no : (bytes : List ℕ) (fault : VarintFault) → 0 < length bytes → varint_front bytes ≡ Err fault → are_varints bytes ≡ false
+pub whole-no : (bytes : List ℕ) (fault : VarintFault) → 0 < length bytes → varint_front bytes ≡ Err fault
+    → are_varints bytes ≡ false
 whole-no bytes fault some f = elim (cases_Bool (are_varints bytes)) [
   | inl whole ↦ absurd (omega (arith, some, ap length (whole-end bytes fault whole f)))
   | inr not ↦ not
@@ -60,7 +72,8 @@ whole-nil = ap (list_all is_varint) runs-nil
 pub numbers-nil : packed_numbers [] ≡ []
 numbers-nil = ap (map sevens) runs-nil
 
-pub numbers-end : (bytes : List ℕ) (fault : VarintFault) → are_varints bytes ≡ true → Err fault ≡ varint_front bytes → packed_numbers bytes ≡ []
+pub numbers-end : (bytes : List ℕ) (fault : VarintFault) → are_varints bytes ≡ true → Err fault ≡ varint_front bytes
+    → packed_numbers bytes ≡ []
 numbers-end bytes fault whole e = ap packed_numbers (whole-end bytes fault whole (sym e)) ∙ numbers-nil
 
 -- ---- their number

@@ -9,4 +9,5 @@ place_in rules k = position (λ rule. rule.number == k) rules
 
 -- It was noted, for each rule that is the first of its field, whether the field stands among fields of these numbers.
 abbrev pub Notes : List FieldRule → List ℕ → List Bool → Type 0
-Notes rules before seen = (k at : ℕ) → place_in rules k ≡ Some at → slice_index_or seen at false ≡ list_any (λ j. j == k) before
+Notes rules before seen = (k at : ℕ) → place_in rules k ≡ Some at
+    → slice_index_or seen at false ≡ list_any (λ j. j == k) before

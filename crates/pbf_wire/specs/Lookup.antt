@@ -10,7 +10,8 @@ place_shown bytes place = option_map (λ (p : ℕ × ℕ). slice_range bytes p.0
 
 -- The field has this number and bytes, and so many of them.
 abbrev pub HasBytes : ℕ → ℕ → wire.Field → Type 0
-HasBytes k size f = (bytes : List ℕ) × (length bytes ≡ size) × (f.value ≡ wire.len bytes) × (bytes_of k (f ∷ []) ≡ bytes ∷ [])
+HasBytes k size f =
+    (bytes : List ℕ) × (length bytes ≡ size) × (f.value ≡ wire.len bytes) × (bytes_of k (f ∷ []) ≡ bytes ∷ [])
 
 -- the last number with this field number in fields, or else the one before; behind none it is `number_of`
 abbrev pub numbers_behind : Option ℕ → ℕ → List wire.Field → Option ℕ

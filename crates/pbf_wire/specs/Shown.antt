@@ -8,7 +8,8 @@ use Rattle.pbf_wire.specs.declared.fields.Value.{Value}
 use Rattle.pbf_wire.specs.declared.fields.Value.TheVariants.{Number, Bytes, Fixed}
 use Rattle.pbf_wire.specs.declared.fields.Field.{Field}
 
--- The reader's value shows the value of a field: a varint's number, the bytes behind a length, and of eight or four bytes only that they are there.
+-- The reader's value shows the value of a field: a varint's number, the bytes behind a length, and of eight or four
+-- bytes only that they are there.
 abbrev pub ShowsValue : Value → wire.Value → Type 0
 ShowsValue (Number n) value = value ≡ varint n
 ShowsValue (Bytes bytes) value = value ≡ len bytes.now
@@ -32,8 +33,10 @@ pub record BeginsWith (left : List ℕ) (shown : Field) (rest : List ℕ) : Type
   pub behind : rest ≡ drop size left
   pub shorter : length rest < length left
 
--- Of the fields to be read, the reader gives the first and leaves the others, or it tells that none is there, or the fault that stands there.
-abbrev pub GivesNext : Reading wire.Field WireFault → Result (Option Field) WireFault → Reading wire.Field WireFault → Type 0
+-- Of the fields to be read, the reader gives the first and leaves the others, or it tells that none is there, or the
+-- fault that stands there.
+abbrev pub GivesNext : Reading wire.Field WireFault → Result (Option Field) WireFault → Reading wire.Field WireFault
+    → Type 0
 GivesNext read (Ok (Some shown)) rest = (field : wire.Field) × ShowsField shown field × (read ≡ then_reads field rest)
 GivesNext read (Ok None) rest = (read ≡ all_read) × (rest ≡ read)
 GivesNext read (Err fault) rest = (read ≡ stops_at fault) × (rest ≡ read)

@@ -49,8 +49,10 @@ fn check_fields(bytes: &[u8], rules: &[FieldRule], seen: &mut [bool]) -> Result<
 // Whether a field fits the table, behind others; that it stood is noted.
 fn check_field(field: &Field, rules: &[FieldRule], seen: &mut [bool]) -> Result<(), MessageFault>
     requires same { length seen.old ≡ length rules.now }
-    ensures exact { (before : List ℕ) (shown : model.Field) → ShowsField field.now shown → Notes rules.now before seen.old → fault_of result ≡ field_fault rules.now before shown }
-    ensures notes { (before : List ℕ) → Notes rules.now before seen.old → Notes rules.now (field.now.number ∷ before) seen.new }
+    ensures exact { (before : List ℕ) (shown : model.Field) → ShowsField field.now shown
+        → Notes rules.now before seen.old → fault_of result ≡ field_fault rules.now before shown }
+    ensures notes { (before : List ℕ) → Notes rules.now before seen.old
+        → Notes rules.now (field.now.number ∷ before) seen.new }
 {
     match place_of(rules, field.number) {
         Some(at) => {
@@ -71,7 +73,9 @@ fn place_of(rules: &[FieldRule], number: u32) -> Option<usize>
 
 // Whether a field has its form; `again` says that it stood already.
 fn check_value(form: Form, again: bool, field: &Field) -> Result<(), MessageFault>
-    ensures { (before : List ℕ) (value : model.Value) → ShowsValue field.now.value value → again ≡ list_any (λ j. j == field.now.number) before → fault_of result ≡ form_fault form before field.now.number value }
+    ensures { (before : List ℕ) (value : model.Value) → ShowsValue field.now.value value
+        → again ≡ list_any (λ j. j == field.now.number) before
+        → fault_of result ≡ form_fault form before field.now.number value }
 {
     match field.value {
         Value::Number(_) => check_number(form, field.number),
@@ -94,7 +98,8 @@ fn check_number(form: Form, field: u32) -> Result<(), MessageFault>
 
 // Whether bytes have the form of their field.
 fn check_bytes(form: Form, again: bool, field: u32, bytes: &[u8]) -> Result<(), MessageFault>
-    ensures { (before : List ℕ) → again ≡ list_any (λ j. j == field) before → fault_of result ≡ form_fault form before field (model.len bytes.now) }
+    ensures { (before : List ℕ) → again ≡ list_any (λ j. j == field) before
+        → fault_of result ≡ form_fault form before field (model.len bytes.now) }
 {
     match form {
         Form::Number => Err(MessageFault::Form { field }),
@@ -119,7 +124,8 @@ mod tests {
 
     const LENGTH: MessageFault = MessageFault::Wire(WireFault::Length);
 
-    // Bytes as a Node: fields 1, 8 and 9 are numbers, 2 and 3 packed lists. Of each two faults of a field the one that counts.
+    // Bytes as a Node: fields 1, 8 and 9 are numbers, 2 and 3 packed lists. Of each two faults of a field the one that
+    // counts.
     const NODES: [(&[u8], Result<(), MessageFault>); 21] = [
         (b"", Ok(())),
         (

@@ -54,7 +54,8 @@ impl<'a> Fields<'a> {
     pub fn next(&mut self) -> Result<Option<Field<'a>>, WireFault>
         ensures found { IfOk result (λ next. IfSome next (λ field. BeginsWith self.old field self.new)) }
         ensures end { (result ≡ Ok None) ↔ (self.old ≡ []) }
-        ensures fault { (fault : WireFault) → (result ≡ Err fault) ↔ ((self.old ≢ []) × (field_front self.old ≡ Err fault)) }
+        ensures fault { (fault : WireFault) → (result ≡ Err fault)
+            ↔ ((self.old ≢ []) × (field_front self.old ≡ Err fault)) }
 
         // The same over the fields that are left.
         ensures reads { GivesNext (fields self.old) result (fields self.new) }
@@ -130,7 +131,8 @@ fn first_value(bytes: &[u8], wire_type: u64) -> Result<(Value<'_>, usize), WireF
 
 // So many bytes, which nobody reads.
 fn fixed_of(bytes: &[u8], count: usize) -> Result<(Value<'_>, usize), WireFault>
-    ensures front { (tell : List ℕ → wire.Value) → ((fixed : List ℕ) → ShowsValue Value.Fixed (tell fixed)) → Gives ShowsValue result (bytes_front tell count 0 bytes.now) }
+    ensures front { (tell : List ℕ → wire.Value) → ((fixed : List ℕ) → ShowsValue Value.Fixed (tell fixed))
+        → Gives ShowsValue result (bytes_front tell count 0 bytes.now) }
     ensures within { IfOk result (λ found. found.1 ≤ length bytes.now) }
 {
     if bytes.len() < count {
@@ -198,7 +200,8 @@ mod tests {
         }
     }
 
-    // Bytes that begin with no field, and the first fault; of each two faults that may stand together, the one that counts.
+    // Bytes that begin with no field, and the first fault; of each two faults that may stand together, the one that
+    // counts.
     const FAULTS: [(&[u8], WireFault); 22] = [
         (b"\x80", WireFault::Varint),
         (

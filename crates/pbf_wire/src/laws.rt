@@ -6,9 +6,12 @@ ghost use Rattle.osm_model.specs.Tables.{values_of, bytes_of, number_of};
 
 /// Of a number that comes several times the last counts; one that is absent has its default.
 pub fn last_number()
-    ensures last { (k n : ℕ) (fs : List Field) (f : Field) → f.number ≡ k → f.value ≡ varint n → number_of k (fs ++ f ∷ []) ≡ Some n }
-    ensures others { (k : ℕ) (fs : List Field) (f : Field) → f.number ≢ k → number_of k (fs ++ f ∷ []) ≡ number_of k fs }
-    ensures absent { (k default : ℕ) (fs : List Field) → values_of k fs ≡ [] → unwrap_or (number_of k fs) default ≡ default }
+    ensures last { (k n : ℕ) (fs : List Field) (f : Field) → f.number ≡ k → f.value ≡ varint n
+        → number_of k (fs ++ f ∷ []) ≡ Some n }
+    ensures others { (k : ℕ) (fs : List Field) (f : Field) → f.number ≢ k
+        → number_of k (fs ++ f ∷ []) ≡ number_of k fs }
+    ensures absent { (k default : ℕ) (fs : List Field) → values_of k fs ≡ []
+        → unwrap_or (number_of k fs) default ≡ default }
 {}
 
 /// The values of a field, and their bytes, stand in the order of the fields.

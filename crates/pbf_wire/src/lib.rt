@@ -1,6 +1,7 @@
 //! Messages of the wire format: fields, packed lists, and the check of a message against a table of field rules.
 //!
-//! Read `fields` first, then `packed`, `rules`, `check` and `tables`; `varint` is below them, and `laws` has what follows for whoever goes over the fields.
+//! Read `fields` first, then `packed`, `rules`, `check` and `tables`; `varint` is below them, and `laws` has what
+//! follows for whoever goes over the fields.
 #![tactic(auto)]
 
 pub mod check;

@@ -6,7 +6,8 @@ use Rattle.pbf_wire.proofs.lookup.bytes_place.Given as goal
 
 -- the fields before had no such bytes
 abbrev pub invariant-loop-field : goal.invariant-loop-field
-invariant-loop-field l = (bytes_of l.number (fields l.message).items ≡ bytes_of l.number (fields l.fields).items) × IsBehind l.message l.fields
+invariant-loop-field l = (bytes_of l.number (fields l.message).items ≡ bytes_of l.number (fields l.fields).items)
+    × IsBehind l.message l.fields
 
 abbrev pub decreases-loop-field : goal.decreases-loop-field
 decreases-loop-field l = length l.fields

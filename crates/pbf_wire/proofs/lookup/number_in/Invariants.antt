@@ -6,7 +6,8 @@ use Rattle.pbf_wire.proofs.lookup.number_in.Given as goal
 
 -- the last number so far, where none follows
 abbrev pub invariant-loop-field : goal.invariant-loop-field
-invariant-loop-field l = number_of l.number (fields l.message).items ≡ numbers_behind l.last l.number (fields l.fields).items
+invariant-loop-field l =
+    number_of l.number (fields l.message).items ≡ numbers_behind l.last l.number (fields l.fields).items
 
 abbrev pub decreases-loop-field : goal.decreases-loop-field
 decreases-loop-field l = length l.fields

@@ -16,10 +16,15 @@ pub returns-in_err-field-clause-reads : goal.returns-in_err-field-clause-reads
 returns-in_err-field-clause-reads c =
     let e : c.from_residual.result ≡ Err c.in_err-field.field-0.0 = search rules in
     let some : 0 < length c.self.inside.rest.now = search rules in
-    gives-next_fault _ _ _ (subst (λ b. 0 < length b) c.self.view_is some) e (sym (ap field_front c.self.view_is) ∙ (c.in_err-field.ensures {u = tt}).front)
+    gives-next_fault _ _ _ (subst (λ b. 0 < length b) c.self.view_is some) e (sym (ap field_front c.self.view_is)
+    ∙ (c.in_err-field.ensures {u = tt}).front)
 
 pub returns-clause-reads : goal.returns-clause-reads
 returns-clause-reads c =
     let (field, shows, read) = (c.in_ok-field.ensures {u = tt}).front in
-    let bytes = c.self.inside.rest.now in
-    (field, shows, ap fields (sym c.self.view_is) ∙ fields-more bytes field c.in_ok-field.size read ∙ ap (λ b. then_reads field (fields b)) (sym (take_rest bytes c.in_ok-field.size)))
+    let bytes = c.self.inside.rest.now in (
+      field,
+      shows,
+      ap fields (sym c.self.view_is) ∙ fields-more bytes field c.in_ok-field.size read
+          ∙ ap (λ b. then_reads field (fields b)) (sym (take_rest bytes c.in_ok-field.size)),
+    )
