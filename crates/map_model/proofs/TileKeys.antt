@@ -42,12 +42,12 @@ tile-rises features tile =
     (members-rise (λ (p : ℕ × Feature). p.1) (λ p. p.0) (enumerate_from 0 features) tile (rises-enumerate 0 features)))
 
 -- a key is of this tile
-record IsOfTile (tile : TilePlace) (k : TileKey) : Type 0 where
-  index : k.index ≡ tile.index
-  y : k.y ≡ tile.y
-  x : k.x ≡ tile.x
+pub record IsOfTile (tile : TilePlace) (k : TileKey) : Type 0 where
+  pub index : k.index ≡ tile.index
+  pub y : k.y ≡ tile.y
+  pub x : k.x ≡ tile.x
 
-tile-of : (features : List Feature) (tile : TilePlace) → AllByRecursion (IsOfTile tile) (tile_keys features tile)
+pub tile-of : (features : List Feature) (tile : TilePlace) → AllByRecursion (IsOfTile tile) (tile_keys features tile)
 unfolding tile_keys
 tile-of features tile =
     all-map (IsOfTile tile) (key_in tile) (numbered_members features tile)

@@ -1,6 +1,6 @@
 -- The members of tiles with their numbers, and the keys that order them: this project's own.
-use Rattle.std.specs.Prelude.{◌≡◌, ◌⊎◌, ℕ, ◌<◌, nat_le, ◌==◌, Bool, ◌&&◌, if◌then◌else◌, List, [], ◌∷◌, ◌++◌, map}
-use Rattle.std.specs.Prelude.{filter, flat_map, Option, Some, None}
+use Rattle.std.specs.Prelude.{◌≡◌, ◌⊎◌, ℕ, ◌<◌, ◌*◌, nat_le, ◌==◌, Bool, ◌&&◌, if◌then◌else◌, List, [], ◌∷◌, ◌++◌}
+use Rattle.std.specs.Prelude.{map, filter, flat_map, length, Option, Some, None}
 use Rattle.std.specs.List.{enumerate_from, AllByRecursion}
 use Rattle.mf_base.specs.declared.place.Rect.{Rect}
 use Rattle.mf_base.specs.declared.tile.Interval.{Interval}
@@ -78,6 +78,10 @@ key_in tile at =
       number = at.0;
     }
 
+-- a key is of this tile
+abbrev pub is_key_of : TilePlace → TileKey → Bool
+is_key_of tile k = k.index == tile.index && k.y == tile.y && k.x == tile.x
+
 -- the keys of a tile's members, in their order
 unfoldable pub tile_keys : List Feature → TilePlace → List TileKey
 tile_keys features tile = map (key_in tile) (numbered_members features tile)
@@ -109,3 +113,7 @@ put_keys set box features =
 -- the keys of all tiles, by interval, then y, then x
 abbrev pub all_keys : HeadSettings → Rect → List Feature → List TileKey
 all_keys set box features = keys_of_tiles features (all_tiles set box)
+
+-- what a feature weighs in all tiles of an interval that it shares with the box
+abbrev pub spread_weight : Rect → Interval → Feature → ℕ
+spread_weight box interval f = if nat_le f.zoom interval.max then f.weight * length (shared_tiles box interval f) else 0
