@@ -1,2 +1,5 @@
 pub mod Compute
 pub mod Placed
+pub mod UnitLaws
+pub mod Parts
+pub mod TextsTold

@@ -5,3 +5,5 @@ pub mod Kinds
 pub mod NumberOrder
 pub mod Spelled
 pub mod Laws
+pub mod Units
+pub mod Records

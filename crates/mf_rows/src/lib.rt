@@ -1,11 +1,20 @@
-//! The rows of parts, and the units of candidates.
+//! The rows of parts, and the units of records.
 //!
-//! `specs/Fields` says how a row is spelled, `specs/Kinds` which fields each of the nine kinds has, and
-//! `specs/RowKinds` the laws that hold of each.
+//! Rows first: `kinds` has the nine structs, `kind` what each keeps, and `row_kinds` how each is put and read. A field
+//! is spelled as `specs/Fields` says, a kind as `specs/Kinds`, and `specs/RowKinds` has the laws.
+//!
+//! Then records. A `view` lends one: its `head`, its texts, and its parts, over which `cursors` go. Its points and parts
+//! are `units` of 16 bytes.
 #![tactic(auto)]
 
+pub mod cursors;
 mod fields;
+pub mod head;
 pub mod kind;
 pub mod kinds;
 mod row_kinds;
 pub mod rows;
+pub mod units;
+pub mod view;
+
+pub use feature_model::fault::LimitFault;

@@ -32,28 +32,28 @@ fn written<P: Spill>(spill: &mut P, rows: &[NodeRow]) -> Result<Part<NodeRow>, F
     Ok(writer.finish())
 }
 
-// The rows of a part, in its order, and no more than nine.
+// Puts the rows of a part, in its order, to the front of a room, and answers how many there are. There is room for all.
 fn rows_of<P: Spill, L: Ledger>(
     spill: &mut P,
     part: &Part<NodeRow>,
     page: &mut Page,
     steps: &mut Steps<L>,
-) -> Result<([NodeRow; 9], usize), Failed>
+    room: &mut [NodeRow],
+) -> Result<usize, Failed>
     requires started { (P.state spill.old).is_started ≡ true }
     requires held { IsHeld node_kind part.now (P.state spill.old) }
-    ensures most { IfOk result (λ found. found.1 ≤ 9) }
+    ensures most { IfOk result (λ n. n ≤ length room.new) }
 {
     let mut reader = Reader::start(part);
-    let mut rows = [row(0, 0); 9];
     let mut n = 0;
     while let Some(row) = reader.next(spill, page, steps)? {
-        if n == 9 {
+        if n == room.len() {
             return Err(Failed);
         }
-        rows[n] = row;
+        room[n] = row;
         n += 1;
     }
-    Ok((rows, n))
+    Ok(n)
 }
 
 // The rows as they are read after they were written, ordered and copied.
@@ -62,27 +62,29 @@ fn in_order<P: Spill, L: Ledger>(
     rows: &[NodeRow],
     page: &mut Page,
     blank: Blank,
-) -> Result<([NodeRow; 9], usize), Failed>
+    room: &mut [NodeRow],
+) -> Result<usize, Failed>
     requires ledger { blank.name ≡ L.name }
     requires parts { blank.parts ≡ L.parts }
     requires some { 0 < blank.parts }
     requires name { IsNameOf (codes "rows") (P.state spill.old).name }
-    ensures most { IfOk result (λ found. found.1 ≤ 9) }
+    ensures most { IfOk result (λ n. n ≤ length room.new) }
 {
     let mut steps = Steps::<L>::new(blank);
     spill.start("rows")?;
     let part = written(spill, rows)?;
     let part = order_part(spill, part)?;
     let part = copy(&part, spill, page, &mut steps)?;
-    rows_of(spill, &part, page, &mut steps)
+    rows_of(spill, &part, page, &mut steps, room)
 }
 
 // Whether the rows are read in this order, after they were written and ordered.
 fn are_read_as(alloc: Global, rows: &[NodeRow], ordered: &[NodeRow]) -> Result<bool, AllocError> {
     let mut page = Page::new(alloc, 3)?;
     let mut store = MemSpill::new(alloc, &[])?;
-    match in_order::<MemSpill, Brand>(&mut store, rows, &mut page, Blank::new(1)) {
-        Ok((found, n)) => Ok(&found[..n] == ordered),
+    let mut room = [row(0, 0); 9];
+    match in_order::<MemSpill, Brand>(&mut store, rows, &mut page, Blank::new(1), &mut room) {
+        Ok(n) => Ok(&room[..n] == ordered),
         Err(Failed) => Ok(false),
     }
 }
@@ -128,7 +130,9 @@ fn each_of_ten_calls_fails_in_turn(rt: HostRuntime) -> Result<(), Fail> {
     for call in 1..12 {
         let mut store = MemSpill::new(rt.alloc(), &[call])?;
         let rows = [row(2, 0), row(1, 0)];
-        let outcome = in_order::<MemSpill, Brand>(&mut store, &rows, &mut page, Blank::new(1));
+        let mut room = [row(0, 0); 2];
+        let blank = Blank::new(1);
+        let outcome = in_order::<MemSpill, Brand>(&mut store, &rows, &mut page, blank, &mut room);
         assert_eq!(rt; outcome.is_err(), call <= 10, "call {call}");
     }
     Ok(())

@@ -7,7 +7,7 @@ abbrev pub invariant-loop-row : goal.invariant-loop-row
 invariant-loop-row g l = record {
   started : (g.P.Spill.state l.spill).is_started ≡ true;
   reading : IsReading node_kind l.reader l.page (g.P.Spill.state l.spill);
-  few : l.n ≤ 9;
+  few : l.n ≤ length l.room;
 }
 
 abbrev pub decreases-loop-row : goal.decreases-loop-row
