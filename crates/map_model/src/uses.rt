@@ -1,4 +1,5 @@
-//! Two loops as passes have them, each resting on the laws: the entries of an index from running sizes, and the keys of one tile.
+//! Two loops as passes have them, each resting on the laws: the entries of an index from running sizes, and the keys of
+//! one tile.
 
 ghost use Rattle.std.specs.Prelude.{◌≡◌, ℕ, ◌+◌, ◌^◌, ◌<◌, Bool, List, ◌∷◌, ◌++◌, take, drop, sum_by, AllPairs};
 ghost use Rattle.mf_base.specs.declared.tile.TilePlace.{TilePlace};
@@ -36,7 +37,8 @@ pub fn put_entries<E: EntryTaker>(out: &mut E, first: u64, tiles: &[(bool, u32)]
 
 /// How many of the keys in front are of the tile: in the keys of all tiles, those of its members in order.
 pub fn count_of_tile(keys: &[TileKey], tile: &TilePlace) -> usize
-    ensures members { (features : List Feature) (later : List TilePlace) → AllPairs TileBelow (tile.now ∷ later) → keys.now ≡ keys_of_tiles features (tile.now ∷ later)
+    ensures members { (features : List Feature) (later : List TilePlace) → AllPairs TileBelow (tile.now ∷ later)
+        → keys.now ≡ keys_of_tiles features (tile.now ∷ later)
         → (take result keys.now ≡ tile_keys features tile.now) × (drop result keys.now ≡ keys_of_tiles features later) }
 {
     let mut n = 0;

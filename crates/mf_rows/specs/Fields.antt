@@ -1,5 +1,6 @@
 -- The fields of a row: this project's profile, on row kinds.
-use Rattle.std.specs.Prelude.{◌≡◌, ℕ, ◌^◌, ◌<◌, ℤ, List, [], ◌∷◌, ◌++◌, length, flat_map, sum_by, FitsSigned, take, replicate}
+use Rattle.std.specs.Prelude.{◌≡◌, ℕ, ◌^◌, ◌<◌, ℤ, List, [], ◌∷◌, ◌++◌, length, flat_map, sum_by, FitsSigned, take}
+use Rattle.std.specs.Prelude.{replicate}
 use Rattle.std.specs.List.{AllByRecursion}
 use Rattle.std.specs.Int.{w32, cast_unsigned}
 use Rattle.std.specs.declared.cmp.Ordering.{Ordering}
@@ -13,7 +14,8 @@ pub data Field : Type 0 where
   coordinate : ℤ → Field
   unit : List ℕ → Field
 
--- Numbers are big-endian, a coordinate in two's complement. A unit is its sixteen bytes; of any other list it has the front and zeros, so that each row has the width of its kind.
+-- Numbers are big-endian, a coordinate in two's complement. A unit is its sixteen bytes; of any other list it has the
+-- front and zeros, so that each row has the width of its kind.
 abbrev pub field_bytes : Field → List ℕ
 field_bytes (number width value) = big_endian width value
 field_bytes (coordinate z) = big_endian 4 (cast_unsigned w32 z)

@@ -3,10 +3,14 @@ use Rattle.std.specs.Prelude.{◌≡◌, ◌≤◌, ℕ, List, [], ◌∷◌, �
 use Rattle.std.proofs.Common.{refl, sym, ap, ◌∙◌, subst, lit≤}
 use Rattle.mf_rows.specs.Fields.{IsRow, Field, fields_of, fields_bytes, row_bytes, AreFields}
 use Rattle.mf_rows.specs.RowKinds.{Kind, HasLaws}
-use Rattle.mf_rows.specs.Spelled.{Form, numbers, coordinates, units, form_of, forms_width, fields_at, number_in, coordinate_in, unit_in, AreKeys, fields-read_back, fields-spelled, fields-small, length-fields, rows-order}
-use Rattle.mf_rows.specs.Kinds.{node_kind, ref_kind, point_kind, member_kind, rel_kind, feature_kind, shape_kind, tile_kind, index_kind}
+use Rattle.mf_rows.specs.Spelled.{Form, numbers, coordinates, units, form_of, forms_width, fields_at, number_in}
+use Rattle.mf_rows.specs.Spelled.{coordinate_in, unit_in, AreKeys, fields-read_back, fields-spelled, fields-small}
+use Rattle.mf_rows.specs.Spelled.{length-fields, rows-order}
+use Rattle.mf_rows.specs.Kinds.{node_kind, ref_kind, point_kind, member_kind, rel_kind, feature_kind, shape_kind}
+use Rattle.mf_rows.specs.Kinds.{tile_kind, index_kind}
 
--- A kind by the forms of its fields, those of its key first: its rows have fields of these forms, and are made of such fields.
+-- A kind by the forms of its fields, those of its key first: its rows have fields of these forms, and are made of such
+-- fields.
 record IsTable {K : Type 0} (kind : Kind K) (keys forms : List Form) (made : List Field → K) : Type 0 where
   some : 1 ≤ kind.key
   within : kind.key ≤ kind.width
@@ -32,10 +36,15 @@ module _ {K : Type 0} {kind : Kind K} {keys forms : List Form} {made : List Fiel
     within = is.within;
     most = is.most;
     long = λ r. length-fields (fields_of (kind.row r)) ∙ whole r;
-    spelled = λ r known. subst (λ n. IsRow n (fields_bytes (fields_of (kind.row r)))) (whole r) (fields-small (fields_of (kind.row r)) known);
-    reads_back = λ r known. let bytes = fields_bytes (fields_of (kind.row r)) in is.read bytes ∙ ap made (ap (λ fs. fields_at 0 fs bytes) (sym (is.row_forms r)) ∙ fields-read_back (fields_of (kind.row r)) known) ∙ is.again r;
-    puts_back = λ b small. ap fields_bytes (is.found b) ∙ fields-spelled forms b (subst (λ n. IsRow n b) (sym is.row_width) small);
-    orders = λ a b known_a known_b. rows-order (kind.row a) (kind.row b) kind.key (front a) (front b) (key_known a known_a) (key_known b known_b) (is.numbers_alone a b);
+    spelled = λ r known. subst (λ n. IsRow n (fields_bytes (fields_of (kind.row r)))) (whole r)
+        (fields-small (fields_of (kind.row r)) known);
+    reads_back = λ r known. let bytes = fields_bytes (fields_of (kind.row r)) in
+        is.read bytes ∙ ap made (ap (λ fs. fields_at 0 fs bytes) (sym (is.row_forms r))
+        ∙ fields-read_back (fields_of (kind.row r)) known) ∙ is.again r;
+    puts_back = λ b small. ap fields_bytes (is.found b)
+        ∙ fields-spelled forms b (subst (λ n. IsRow n b) (sym is.row_width) small);
+    orders = λ a b known_a known_b. rows-order (kind.row a) (kind.row b) kind.key (front a) (front b)
+        (key_known a known_a) (key_known b known_b) (is.numbers_alone a b);
   }
     where
       whole : (r : K) → forms_width (map form_of (fields_of (kind.row r))) ≡ kind.width
@@ -48,136 +57,186 @@ module _ {K : Type 0} {kind : Kind K} {keys forms : List Form} {made : List Fiel
       key_known r known = all-front (kind.row r).key (kind.row r).rest known
 
 pub node-laws : HasLaws node_kind
-node-laws = table_laws {keys = numbers 8 ∷ []} {forms = numbers 8 ∷ coordinates ∷ coordinates ∷ []} {made = λ fs. record { node = number_in 0 fs; lat = coordinate_in 1 fs; lon = coordinate_in 2 fs }} (record {
-  some = lit≤ tt;
-  within = lit≤ tt;
-  most = lit≤ tt;
-  key_width = refl;
-  row_width = refl;
-  key_forms = λ r. refl;
-  row_forms = λ r. refl;
-  numbers_alone = λ a b. (refl, tt);
-  again = λ r. refl;
-  read = λ b. refl;
-  found = λ b. refl;
-})
+node-laws = table_laws {keys = numbers 8 ∷ []} {forms = numbers 8 ∷ coordinates ∷ coordinates ∷ []}
+    {made = λ fs. record { node = number_in 0 fs; lat = coordinate_in 1 fs; lon = coordinate_in 2 fs }} (record {
+      some = lit≤ tt;
+      within = lit≤ tt;
+      most = lit≤ tt;
+      key_width = refl;
+      row_width = refl;
+      key_forms = λ r. refl;
+      row_forms = λ r. refl;
+      numbers_alone = λ a b. (refl, tt);
+      again = λ r. refl;
+      read = λ b. refl;
+      found = λ b. refl;
+    })
 
 pub ref-laws : HasLaws ref_kind
-ref-laws = table_laws {keys = numbers 8 ∷ numbers 8 ∷ numbers 4 ∷ []} {forms = numbers 8 ∷ numbers 8 ∷ numbers 4 ∷ []} {made = λ fs. record { node = number_in 0 fs; way = number_in 1 fs; place = number_in 2 fs }} (record {
-  some = lit≤ tt;
-  within = lit≤ tt;
-  most = lit≤ tt;
-  key_width = refl;
-  row_width = refl;
-  key_forms = λ r. refl;
-  row_forms = λ r. refl;
-  numbers_alone = λ a b. (refl, (refl, (refl, tt)));
-  again = λ r. refl;
-  read = λ b. refl;
-  found = λ b. refl;
-})
+ref-laws = table_laws {keys = numbers 8 ∷ numbers 8 ∷ numbers 4 ∷ []} {forms = numbers 8 ∷ numbers 8 ∷ numbers 4 ∷ []}
+    {made = λ fs. record { node = number_in 0 fs; way = number_in 1 fs; place = number_in 2 fs }} (record {
+      some = lit≤ tt;
+      within = lit≤ tt;
+      most = lit≤ tt;
+      key_width = refl;
+      row_width = refl;
+      key_forms = λ r. refl;
+      row_forms = λ r. refl;
+      numbers_alone = λ a b. (refl, (refl, (refl, tt)));
+      again = λ r. refl;
+      read = λ b. refl;
+      found = λ b. refl;
+    })
 
 pub point-laws : HasLaws point_kind
-point-laws = table_laws {keys = numbers 8 ∷ numbers 4 ∷ []} {forms = numbers 8 ∷ numbers 4 ∷ numbers 8 ∷ coordinates ∷ coordinates ∷ []} {made = λ fs. record { way = number_in 0 fs; place = number_in 1 fs; node = number_in 2 fs; lat = coordinate_in 3 fs; lon = coordinate_in 4 fs }} (record {
-  some = lit≤ tt;
-  within = lit≤ tt;
-  most = lit≤ tt;
-  key_width = refl;
-  row_width = refl;
-  key_forms = λ r. refl;
-  row_forms = λ r. refl;
-  numbers_alone = λ a b. (refl, (refl, tt));
-  again = λ r. refl;
-  read = λ b. refl;
-  found = λ b. refl;
-})
+point-laws = table_laws {keys = numbers 8 ∷ numbers 4 ∷ []}
+    {forms = numbers 8 ∷ numbers 4 ∷ numbers 8 ∷ coordinates ∷ coordinates ∷ []}
+    {made = λ fs. record {
+      way = number_in 0 fs;
+      place = number_in 1 fs;
+      node = number_in 2 fs;
+      lat = coordinate_in 3 fs;
+      lon = coordinate_in 4 fs;
+    }} (record {
+      some = lit≤ tt;
+      within = lit≤ tt;
+      most = lit≤ tt;
+      key_width = refl;
+      row_width = refl;
+      key_forms = λ r. refl;
+      row_forms = λ r. refl;
+      numbers_alone = λ a b. (refl, (refl, tt));
+      again = λ r. refl;
+      read = λ b. refl;
+      found = λ b. refl;
+    })
 
 pub member-laws : HasLaws member_kind
-member-laws = table_laws {keys = numbers 8 ∷ numbers 8 ∷ numbers 4 ∷ []} {forms = numbers 8 ∷ numbers 8 ∷ numbers 4 ∷ numbers 1 ∷ []} {made = λ fs. record { way = number_in 0 fs; relation = number_in 1 fs; member = number_in 2 fs; role = number_in 3 fs }} (record {
-  some = lit≤ tt;
-  within = lit≤ tt;
-  most = lit≤ tt;
-  key_width = refl;
-  row_width = refl;
-  key_forms = λ r. refl;
-  row_forms = λ r. refl;
-  numbers_alone = λ a b. (refl, (refl, (refl, tt)));
-  again = λ r. refl;
-  read = λ b. refl;
-  found = λ b. refl;
-})
+member-laws = table_laws {keys = numbers 8 ∷ numbers 8 ∷ numbers 4 ∷ []}
+    {forms = numbers 8 ∷ numbers 8 ∷ numbers 4 ∷ numbers 1 ∷ []}
+    {made = λ fs. record {
+      way = number_in 0 fs;
+      relation = number_in 1 fs;
+      member = number_in 2 fs;
+      role = number_in 3 fs;
+    }} (record {
+      some = lit≤ tt;
+      within = lit≤ tt;
+      most = lit≤ tt;
+      key_width = refl;
+      row_width = refl;
+      key_forms = λ r. refl;
+      row_forms = λ r. refl;
+      numbers_alone = λ a b. (refl, (refl, (refl, tt)));
+      again = λ r. refl;
+      read = λ b. refl;
+      found = λ b. refl;
+    })
 
 pub rel-laws : HasLaws rel_kind
-rel-laws = table_laws {keys = numbers 8 ∷ numbers 4 ∷ numbers 4 ∷ []} {forms = numbers 8 ∷ numbers 4 ∷ numbers 4 ∷ numbers 1 ∷ numbers 8 ∷ coordinates ∷ coordinates ∷ []} {made = λ fs. record { relation = number_in 0 fs; member = number_in 1 fs; place = number_in 2 fs; role = number_in 3 fs; node = number_in 4 fs; lat = coordinate_in 5 fs; lon = coordinate_in 6 fs }} (record {
-  some = lit≤ tt;
-  within = lit≤ tt;
-  most = lit≤ tt;
-  key_width = refl;
-  row_width = refl;
-  key_forms = λ r. refl;
-  row_forms = λ r. refl;
-  numbers_alone = λ a b. (refl, (refl, (refl, tt)));
-  again = λ r. refl;
-  read = λ b. refl;
-  found = λ b. refl;
-})
+rel-laws = table_laws {keys = numbers 8 ∷ numbers 4 ∷ numbers 4 ∷ []}
+    {forms = numbers 8 ∷ numbers 4 ∷ numbers 4 ∷ numbers 1 ∷ numbers 8 ∷ coordinates ∷ coordinates ∷ []}
+    {made = λ fs. record {
+      relation = number_in 0 fs;
+      member = number_in 1 fs;
+      place = number_in 2 fs;
+      role = number_in 3 fs;
+      node = number_in 4 fs;
+      lat = coordinate_in 5 fs;
+      lon = coordinate_in 6 fs;
+    }} (record {
+      some = lit≤ tt;
+      within = lit≤ tt;
+      most = lit≤ tt;
+      key_width = refl;
+      row_width = refl;
+      key_forms = λ r. refl;
+      row_forms = λ r. refl;
+      numbers_alone = λ a b. (refl, (refl, (refl, tt)));
+      again = λ r. refl;
+      read = λ b. refl;
+      found = λ b. refl;
+    })
 
 pub feature-laws : HasLaws feature_kind
-feature-laws = table_laws {keys = numbers 1 ∷ numbers 8 ∷ numbers 4 ∷ []} {forms = numbers 1 ∷ numbers 8 ∷ numbers 4 ∷ units ∷ []} {made = λ fs. record { kind = number_in 0 fs; id = number_in 1 fs; place = number_in 2 fs; unit = unit_in 3 fs }} (record {
-  some = lit≤ tt;
-  within = lit≤ tt;
-  most = lit≤ tt;
-  key_width = refl;
-  row_width = refl;
-  key_forms = λ r. refl;
-  row_forms = λ r. refl;
-  numbers_alone = λ a b. (refl, (refl, (refl, tt)));
-  again = λ r. refl;
-  read = λ b. refl;
-  found = λ b. refl;
-})
+feature-laws = table_laws {keys = numbers 1 ∷ numbers 8 ∷ numbers 4 ∷ []}
+    {forms = numbers 1 ∷ numbers 8 ∷ numbers 4 ∷ units ∷ []}
+    {made = λ fs. record { kind = number_in 0 fs; id = number_in 1 fs; place = number_in 2 fs; unit = unit_in 3 fs }}
+    (record {
+      some = lit≤ tt;
+      within = lit≤ tt;
+      most = lit≤ tt;
+      key_width = refl;
+      row_width = refl;
+      key_forms = λ r. refl;
+      row_forms = λ r. refl;
+      numbers_alone = λ a b. (refl, (refl, (refl, tt)));
+      again = λ r. refl;
+      read = λ b. refl;
+      found = λ b. refl;
+    })
 
 pub shape-laws : HasLaws shape_kind
-shape-laws = table_laws {keys = numbers 8 ∷ numbers 4 ∷ []} {forms = numbers 8 ∷ numbers 4 ∷ units ∷ []} {made = λ fs. record { number = number_in 0 fs; place = number_in 1 fs; unit = unit_in 2 fs }} (record {
-  some = lit≤ tt;
-  within = lit≤ tt;
-  most = lit≤ tt;
-  key_width = refl;
-  row_width = refl;
-  key_forms = λ r. refl;
-  row_forms = λ r. refl;
-  numbers_alone = λ a b. (refl, (refl, tt));
-  again = λ r. refl;
-  read = λ b. refl;
-  found = λ b. refl;
-})
+shape-laws = table_laws {keys = numbers 8 ∷ numbers 4 ∷ []} {forms = numbers 8 ∷ numbers 4 ∷ units ∷ []}
+    {made = λ fs. record { number = number_in 0 fs; place = number_in 1 fs; unit = unit_in 2 fs }} (record {
+      some = lit≤ tt;
+      within = lit≤ tt;
+      most = lit≤ tt;
+      key_width = refl;
+      row_width = refl;
+      key_forms = λ r. refl;
+      row_forms = λ r. refl;
+      numbers_alone = λ a b. (refl, (refl, tt));
+      again = λ r. refl;
+      read = λ b. refl;
+      found = λ b. refl;
+    })
 
 pub tile-laws : HasLaws tile_kind
-tile-laws = table_laws {keys = numbers 1 ∷ numbers 4 ∷ numbers 4 ∷ numbers 1 ∷ numbers 1 ∷ numbers 8 ∷ numbers 4 ∷ []} {forms = numbers 1 ∷ numbers 4 ∷ numbers 4 ∷ numbers 1 ∷ numbers 1 ∷ numbers 8 ∷ numbers 4 ∷ units ∷ []} {made = λ fs. record { interval = number_in 0 fs; y = number_in 1 fs; x = number_in 2 fs; class = number_in 3 fs; zoom = number_in 4 fs; number = number_in 5 fs; place = number_in 6 fs; unit = unit_in 7 fs }} (record {
-  some = lit≤ tt;
-  within = lit≤ tt;
-  most = lit≤ tt;
-  key_width = refl;
-  row_width = refl;
-  key_forms = λ r. refl;
-  row_forms = λ r. refl;
-  numbers_alone = λ a b. (refl, (refl, (refl, (refl, (refl, (refl, (refl, tt)))))));
-  again = λ r. refl;
-  read = λ b. refl;
-  found = λ b. refl;
-})
+tile-laws = table_laws {keys = numbers 1 ∷ numbers 4 ∷ numbers 4 ∷ numbers 1 ∷ numbers 1 ∷ numbers 8 ∷ numbers 4 ∷ []}
+    {forms = numbers 1 ∷ numbers 4 ∷ numbers 4 ∷ numbers 1 ∷ numbers 1 ∷ numbers 8 ∷ numbers 4 ∷ units ∷ []}
+    {made = λ fs. record {
+      interval = number_in 0 fs;
+      y = number_in 1 fs;
+      x = number_in 2 fs;
+      class = number_in 3 fs;
+      zoom = number_in 4 fs;
+      number = number_in 5 fs;
+      place = number_in 6 fs;
+      unit = unit_in 7 fs;
+    }} (record {
+      some = lit≤ tt;
+      within = lit≤ tt;
+      most = lit≤ tt;
+      key_width = refl;
+      row_width = refl;
+      key_forms = λ r. refl;
+      row_forms = λ r. refl;
+      numbers_alone = λ a b. (refl, (refl, (refl, (refl, (refl, (refl, (refl, tt)))))));
+      again = λ r. refl;
+      read = λ b. refl;
+      found = λ b. refl;
+    })
 
 pub index-laws : HasLaws index_kind
-index-laws = table_laws {keys = numbers 1 ∷ numbers 4 ∷ numbers 4 ∷ []} {forms = numbers 1 ∷ numbers 4 ∷ numbers 4 ∷ numbers 1 ∷ numbers 8 ∷ []} {made = λ fs. record { interval = number_in 0 fs; y = number_in 1 fs; x = number_in 2 fs; water = number_in 3 fs; size = number_in 4 fs }} (record {
-  some = lit≤ tt;
-  within = lit≤ tt;
-  most = lit≤ tt;
-  key_width = refl;
-  row_width = refl;
-  key_forms = λ r. refl;
-  row_forms = λ r. refl;
-  numbers_alone = λ a b. (refl, (refl, (refl, tt)));
-  again = λ r. refl;
-  read = λ b. refl;
-  found = λ b. refl;
-})
+index-laws = table_laws {keys = numbers 1 ∷ numbers 4 ∷ numbers 4 ∷ []}
+    {forms = numbers 1 ∷ numbers 4 ∷ numbers 4 ∷ numbers 1 ∷ numbers 8 ∷ []}
+    {made = λ fs. record {
+      interval = number_in 0 fs;
+      y = number_in 1 fs;
+      x = number_in 2 fs;
+      water = number_in 3 fs;
+      size = number_in 4 fs;
+    }} (record {
+      some = lit≤ tt;
+      within = lit≤ tt;
+      most = lit≤ tt;
+      key_width = refl;
+      row_width = refl;
+      key_forms = λ r. refl;
+      row_forms = λ r. refl;
+      numbers_alone = λ a b. (refl, (refl, (refl, tt)));
+      again = λ r. refl;
+      read = λ b. refl;
+      found = λ b. refl;
+    })

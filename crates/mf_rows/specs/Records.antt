@@ -1,5 +1,6 @@
 -- What a record of a desk tells of one object. This project's own.
-use Rattle.std.specs.Prelude.{ℕ, ◌+◌, ◌≤◌, nat_eq, pos, Bool, true, false, List, [], ◌∷◌, map, take, drop, slice_get, find, Option, Some, None, option_map, unwrap_or}
+use Rattle.std.specs.Prelude.{ℕ, ◌+◌, ◌≤◌, nat_eq, pos, Bool, true, false, List, [], ◌∷◌, map, take, drop, slice_get}
+use Rattle.std.specs.Prelude.{find, Option, Some, None, option_map, unwrap_or}
 use Rattle.std.specs.List.{enumerate_from}
 use Rattle.mf_base.specs.Texts.{Text}
 use Rattle.mf_base.specs.declared.kept.Kept.{Kept as KeptRead}
@@ -16,7 +17,8 @@ use Rattle.mf_rows.specs.declared.head.TextSlot.{TextSlot}
 use Rattle.mf_rows.specs.declared.head.TextSpan.{TextSpan}
 use Rattle.mf_rows.specs.declared.head.TextSlot.TheVariants.{Name, House, Reference, Tag}
 
--- A record: its head, its texts by their slots, the point of a node, and the parts with their points. Once its rings are joined, the parts of a relation are the rings, and each outer one begins a block.
+-- A record: its head, its texts by their slots, the point of a node, and the parts with their points. Once its rings
+-- are joined, the parts of a relation are the rings, and each outer one begins a block.
 pub record Record : Type 0 where
   pub head : Head
   pub texts : List (TextSlot × Text)
@@ -35,7 +37,8 @@ same_slot _ _ = false
 
 -- the text in a slot
 abbrev pub text_in : List (TextSlot × Text) → TextSlot → Option Text
-text_in texts slot = option_map (λ (t : TextSlot × Text). t.1) (find (λ (t : TextSlot × Text). same_slot t.0 slot) texts)
+text_in texts slot =
+    option_map (λ (t : TextSlot × Text). t.1) (find (λ (t : TextSlot × Text). same_slot t.0 slot) texts)
 
 -- a text lies in a block of so many bytes
 abbrev pub LiesIn : ℕ → TextSpan → Type 0
@@ -79,7 +82,14 @@ abbrev pub description_told : Head → List (TextSlot × Text) → Description
 description_told h texts = record {
   kind = h.kind;
   id = h.id;
-  choice = record { tags = map (kept_told texts) (enumerate_from 0 h.tags.items); zoom = h.zoom; layer = h.layer; water = h.water; label = h.label; coast = h.coast };
+  choice = record {
+    tags = map (kept_told texts) (enumerate_from 0 h.tags.items);
+    zoom = h.zoom;
+    layer = h.layer;
+    water = h.water;
+    label = h.label;
+    coast = h.coast;
+  };
   name = text_in texts Name;
   house = text_in texts House;
   reference = text_in texts Reference;
@@ -104,4 +114,5 @@ geometry_told EntityKind.Relation spot all = parts all
 
 -- the candidate that a record is
 unfoldable pub candidate_told : Record → Candidate
-candidate_told r = record { description = description_told r.head r.texts; geometry = geometry_told r.head.kind r.spot r.parts }
+candidate_told r =
+    record { description = description_told r.head r.texts; geometry = geometry_told r.head.kind r.spot r.parts }

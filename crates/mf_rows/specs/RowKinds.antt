@@ -37,7 +37,8 @@ pub record HasLaws {K : Type 0} (kind : Kind K) : Type 0 where
   -- every list of so many bytes is a row
   pub puts_back : (b : List ℕ) → IsRow kind.width b → bytes_of kind (kind.row_of b) ≡ b
   -- the order of keys is the order of their bytes
-  pub orders : (a b : K) → IsOf kind a → IsOf kind b → byte_order (take kind.key (bytes_of kind a)) (take kind.key (bytes_of kind b)) ≡ key_order kind a b
+  pub orders : (a b : K) → IsOf kind a → IsOf kind b
+      → byte_order (take kind.key (bytes_of kind a)) (take kind.key (bytes_of kind b)) ≡ key_order kind a b
 
 -- so many rows that stand at the front of bytes
 abbrev pub rows_in : {K : Type 0} → Kind K → ℕ → List ℕ → List K

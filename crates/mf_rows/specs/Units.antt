@@ -1,5 +1,7 @@
--- The units of 16 bytes that spell the parts and points of a record: this project's profile, on row kinds. What the bytes of a part's unit are is this project's own.
-use Rattle.std.specs.Prelude.{ℕ, zero, suc, nat_le, if◌then◌else◌, List, [], ◌∷◌, map, flat_map, length, take, drop, bytes_eq, Option, Some, None, option_map}
+-- The units of 16 bytes that spell the parts and points of a record: this project's profile, on row kinds. What the
+-- bytes of a part's unit are is this project's own.
+use Rattle.std.specs.Prelude.{ℕ, zero, suc, nat_le, if◌then◌else◌, List, [], ◌∷◌, map, flat_map, length, take, drop}
+use Rattle.std.specs.Prelude.{bytes_eq, Option, Some, None, option_map}
 use Rattle.mf_base.specs.declared.kind.Role.{Role}
 use Rattle.feature_model.specs.Points.{Point, Part}
 use Rattle.mf_rows.specs.Fields.{number, fields_bytes}
@@ -51,7 +53,8 @@ or_else (Some this) that = Some this
 
 -- the role and the number of points that a unit tells, where it is that of a part
 unfoldable pub part_in : Unit16 → Option (Role × ℕ)
-part_in unit = let points = number_at 1 8 unit in or_else (part_of unit points Role.Outer) (part_of unit points Role.Inner)
+part_in unit = let points =
+    number_at 1 8 unit in or_else (part_of unit points Role.Outer) (part_of unit points Role.Inner)
 
 -- the units of a part and its points
 abbrev pub part_units : Part → List Unit16
@@ -65,10 +68,12 @@ parts_units parts = flat_map part_units parts
 abbrev pub with_part : Role → List Unit16 → List Part → List Part
 with_part role points more = record { role = role; points = map point_in points } ∷ more
 
--- the parts that units spell behind the unit of a part, where they spell some: its points, and then those that `more` finds in the rest
+-- the parts that units spell behind the unit of a part, where they spell some: its points, and then those that `more`
+-- finds in the rest
 abbrev pub next_parts : Option (Role × ℕ) → List Unit16 → (List Unit16 → Option (List Part)) → Option (List Part)
 next_parts None units more = None
-next_parts (Some p) units more = if nat_le p.1 (length units) then option_map (with_part p.0 (take p.1 units)) (more (drop p.1 units)) else None
+next_parts (Some p) units more =
+    if nat_le p.1 (length units) then option_map (with_part p.0 (take p.1 units)) (more (drop p.1 units)) else None
 
 -- the same of all units, where they are at most so many
 unfoldable pub parts_within : ℕ → List Unit16 → Option (List Part)

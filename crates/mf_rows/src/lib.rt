@@ -3,7 +3,8 @@
 //! Rows first: `kinds` has the nine structs, `kind` what each keeps, and `row_kinds` how each is put and read. A field
 //! is spelled as `specs/Fields` says, a kind as `specs/Kinds`, and `specs/RowKinds` has the laws.
 //!
-//! Then records. A `view` lends one: its `head`, its texts, and its parts, over which `cursors` go. Its points and parts
+//! Then records. A `view` lends one: its `head`, its texts, and its parts, over which `cursors` go. Its points and
+//! parts
 //! are `units` of 16 bytes.
 #![tactic(auto)]
 

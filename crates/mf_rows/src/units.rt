@@ -1,7 +1,8 @@
 //! The units of parts and points.
 
 ghost use Rattle.std.specs.Prelude.{◌≡◌, option_map};
-ghost use Rattle.mf_rows.specs.Units.{point_unit as unit_of_point, point_in, part_unit as unit_of_part, part_in, role_number};
+ghost use Rattle.mf_rows.specs.Units.{point_unit as unit_of_point, point_in, part_unit as unit_of_part, part_in};
+ghost use Rattle.mf_rows.specs.Units.{role_number};
 
 use crate::fields::{get_u64, put_u8, put_u64};
 use crate::kind::RowKind;

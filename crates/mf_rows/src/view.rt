@@ -26,9 +26,15 @@ impl<'a> Model for View<'a> {
 
     ghost Value = { Record };
 
-    ghost view = { λ v. record { head = v.head.now; texts = texts_told v.texts.block.now v.texts.spans.items; spot = spot_in v.head.now.kind v.drawn.now; parts = unwrap_or (drawn_parts v.head.now.kind v.drawn.now) [] } };
+    ghost view = { λ v. record {
+      head = v.head.now;
+      texts = texts_told v.texts.block.now v.texts.spans.items;
+      spot = spot_in v.head.now.kind v.drawn.now;
+      parts = unwrap_or (drawn_parts v.head.now.kind v.drawn.now) [];
+    } };
 
-    ghost invariant = { λ v. AllByRecursion (LiesIn (length v.texts.block.now)) v.texts.spans.items × IsSome (drawn_parts v.head.now.kind v.drawn.now) };
+    ghost invariant = { λ v. AllByRecursion (LiesIn (length v.texts.block.now)) v.texts.spans.items
+        × IsSome (drawn_parts v.head.now.kind v.drawn.now) };
 }
 
 impl<'a> View<'a> {

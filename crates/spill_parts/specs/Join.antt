@@ -1,11 +1,13 @@
 -- The join of two lists of rows by a key that both have. This project's own.
-use Rattle.std.specs.Prelude.{◌≡◌, ◌+◌, ℕ, ◌<◌, ◌≤◌, nat_lt, ◌==◌, Bool, false, if◌then◌else◌, List, [], ◌∷◌, filter_map, find, Option, Some, None, option_map, ⊤}
+use Rattle.std.specs.Prelude.{◌≡◌, ◌+◌, ℕ, ◌<◌, ◌≤◌, nat_lt, ◌==◌, Bool, false, if◌then◌else◌, List, [], ◌∷◌}
+use Rattle.std.specs.Prelude.{filter_map, find, Option, Some, None, option_map, ⊤}
 use Rattle.mf_edge.specs.Spill.{SpillState, KeepsOthers}
 use Rattle.std.specs.List.{AllByRecursion}
 
 -- Each row of the one list with the row of the other that has its key, where there is one.
 unfoldable pub joined_rows : {R N O : Type 0} → (R → ℕ) → (N → ℕ) → (R → N → O) → List N → List R → List O
-joined_rows {R} {N} {O} ref_key node_key join nodes refs = filter_map (λ (r : R). option_map (join r) (find (λ (n : N). node_key n == ref_key r) nodes)) refs
+joined_rows {R} {N} {O} ref_key node_key join nodes refs =
+    filter_map (λ (r : R). option_map (join r) (find (λ (n : N). node_key n == ref_key r) nodes)) refs
 
 -- keys that do not fall
 abbrev pub Climbs : {R : Type 0} → (R → ℕ) → List R → Type 0

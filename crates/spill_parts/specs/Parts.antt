@@ -1,5 +1,6 @@
 -- Parts of rows in a store. This project's own.
-use Rattle.std.specs.Prelude.{◌≡◌, ◌≢◌, ℕ, ◌+◌, ◌-◌, ◌*◌, ◌≤◌, take, drop, true, Bool, List, [], ◌∷◌, ◌++◌, length, Option, Some, None, ⊤, if◌then◌else◌}
+use Rattle.std.specs.Prelude.{◌≡◌, ◌≢◌, ℕ, ◌+◌, ◌-◌, ◌*◌, ◌≤◌, take, drop, true, Bool, List, [], ◌∷◌, ◌++◌, length}
+use Rattle.std.specs.Prelude.{Option, Some, None, ⊤, if◌then◌else◌}
 use Rattle.std.specs.List.{AllByRecursion}
 use Rattle.mf_base.specs.Ascending.{is_below}
 use Rattle.mf_edge.specs.Spill.{SpillState, KeepsOthers, part_limit}
@@ -69,7 +70,8 @@ GivesNext {K} tells left (Some row) left_now = (next : K) × (left ≡ next ∷ 
 -- a row before the first that is not smaller
 abbrev pub put_row_in : {K : Type 0} → Kind K → K → List K → List K
 put_row_in kind row [] = row ∷ []
-put_row_in kind row (first ∷ rows) = if is_below (bytes_of kind first) (bytes_of kind row) then first ∷ put_row_in kind row rows else row ∷ first ∷ rows
+put_row_in kind row (first ∷ rows) =
+    if is_below (bytes_of kind first) (bytes_of kind row) then first ∷ put_row_in kind row rows else row ∷ first ∷ rows
 
 -- The rows of an ordered part: the same rows, each as often, ascending by their bytes.
 unfoldable pub ordered_rows : {K : Type 0} → Kind K → List K → List K
@@ -110,4 +112,5 @@ pub record IsReading {K : Type 0} (kind : Kind K) (r : Reading K) (page : PageBy
   pub given : (done : List K) × (r.source.rows ≡ done ++ r.left) × (r.loaded ≡ length done + r.waiting)
   pub some : r.loaded ≤ length r.source.rows
   pub within : r.waiting ≤ page.room
-  pub on_page : s.tells ≡ true → rows_in kind r.waiting (drop (kind.width * (page.room - r.waiting)) page.bytes) ≡ take r.waiting r.left
+  pub on_page : s.tells ≡ true
+      → rows_in kind r.waiting (drop (kind.width * (page.room - r.waiting)) page.bytes) ≡ take r.waiting r.left

@@ -47,7 +47,8 @@ pub fn join<R: Keyed, N: Keyed, O: JoinOf<R, N>, P: Spill, L: Ledger>(
     requires nodes { IsHeld N.kind nodes.now (P.state spill.old) }
     requires climbs { (P.state spill.old).tells ≡ true → Climbs R.key_of refs.now.rows }
     requires rises { (P.state spill.old).tells ≡ true → Rises N.key_of nodes.now.rows }
-    ensures rows { IfOk result (λ out. (P.state spill.old).tells ≡ true → out.rows ≡ joined_rows R.key_of N.key_of O.join_of nodes.now.rows refs.now.rows) }
+    ensures rows { IfOk result (λ out. (P.state spill.old).tells ≡ true
+        → out.rows ≡ joined_rows R.key_of N.key_of O.join_of nodes.now.rows refs.now.rows) }
     ensures held { IfOk result (λ out. IsHeld O.kind out (P.state spill.new)) }
     ensures added { IfOk result (λ out. IsAdded out.part (P.state spill.old) (P.state spill.new)) }
     ensures same_faults { OnOk result ((P.state spill.new).faults ≡ (P.state spill.old).faults) }
@@ -80,13 +81,17 @@ fn pass_below<N: Keyed, P: Spill, L: Ledger>(
 ) -> Result<Option<N>, Failed>
     requires started { (P.state spill.old).is_started ≡ true }
     requires reading { IsReading N.kind reader.old page.old (P.state spill.old) }
-    ensures rest { IfOk result (λ now. (P.state spill.old).tells ≡ true → rest_of now reader.new.left ≡ from_key N.key_of wanted (rest_of held reader.old.left)) }
+    ensures rest { IfOk result (λ now. (P.state spill.old).tells ≡ true
+        → rest_of now reader.new.left ≡ from_key N.key_of wanted (rest_of held reader.old.left)) }
     ensures stops { IfOk result (λ now. is_below N.key_of wanted now ≡ false) }
     ensures reading { OnOk result (IsReading N.kind reader.new page.new (P.state spill.new)) }
     ensures same_faults { OnOk result ((P.state spill.new).faults ≡ (P.state spill.old).faults) }
-    ensures steps { OnOk result (steps.new + N.kind.width * reader.old.loaded ≡ steps.old + N.kind.width * reader.new.loaded) }
-    ensures steps_failed { OnErr result (steps.new + N.kind.width * reader.old.loaded ≤ steps.old + N.kind.width * length reader.old.source.rows) }
-    ensures within { OnOk result (N.kind.width * reader.old.loaded ≤ N.kind.width * length reader.old.source.rows → N.kind.width * reader.new.loaded ≤ N.kind.width * length reader.new.source.rows) }
+    ensures steps { OnOk result (steps.new + N.kind.width * reader.old.loaded ≡ steps.old
+        + N.kind.width * reader.new.loaded) }
+    ensures steps_failed { OnErr result (steps.new + N.kind.width * reader.old.loaded ≤ steps.old
+        + N.kind.width * length reader.old.source.rows) }
+    ensures within { OnOk result (N.kind.width * reader.old.loaded ≤ N.kind.width * length reader.old.source.rows
+        → N.kind.width * reader.new.loaded ≤ N.kind.width * length reader.new.source.rows) }
     ensures failed { OnErr result (CountsOne (P.state spill.old).faults (P.state spill.new).faults) }
     ensures same_source { reader.new.source ≡ reader.old.source }
     ensures same { SameParts (P.state spill.old) (P.state spill.new) }

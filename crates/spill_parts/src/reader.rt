@@ -1,6 +1,7 @@
 //! Who reads a part.
 
-ghost use Rattle.std.specs.Prelude.{◌≡◌, ◌⊎◌, ℕ, ◌+◌, ◌-◌, ◌*◌, ◌<◌, ◌≤◌, ◌^◌, true, false, [], length, take, drop, Some, None, Ok, IfOk, OnOk, OnErr};
+ghost use Rattle.std.specs.Prelude.{◌≡◌, ◌⊎◌, ℕ, ◌+◌, ◌-◌, ◌*◌, ◌<◌, ◌≤◌, ◌^◌, true, false, [], length, take, drop};
+ghost use Rattle.std.specs.Prelude.{Some, None, Ok, IfOk, OnOk, OnErr};
 ghost use Rattle.mf_edge.specs.Device.{CountsOne};
 ghost use Rattle.mf_edge.specs.Spill.{SpillState, SameParts, HasBytes, stretch};
 ghost use Rattle.spill_parts.specs.Parts.{PageBytes, IsHeld, IsReading, GivesNext};
@@ -81,7 +82,9 @@ impl Page {
         requires held { IsHeld K.kind part.now (P.state spill.old) }
         requires there { loaded + n ≤ length part.now.rows }
         requires room { n ≤ self.old.room }
-        ensures loaded { OnOk result ((P.state spill.old).tells ≡ true → take (K.kind.width * n) (drop (K.kind.width * (self.old.room - n)) self.new.bytes) ≡ stretch (P.state spill.old) part.now.part (K.kind.width * loaded) (K.kind.width * n)) }
+        ensures loaded { OnOk result ((P.state spill.old).tells ≡ true
+            → take (K.kind.width * n) (drop (K.kind.width * (self.old.room - n)) self.new.bytes) ≡ stretch (P.state
+            spill.old) part.now.part (K.kind.width * loaded) (K.kind.width * n)) }
         ensures same_faults { OnOk result ((P.state spill.new).faults ≡ (P.state spill.old).faults) }
         ensures failed { OnErr result (CountsOne (P.state spill.old).faults (P.state spill.new).faults) }
         ensures steps { steps.new ≡ steps.old + K.kind.width * n }
@@ -98,7 +101,8 @@ impl Page {
     fn first<K: RowKind>(&self, waiting: u32) -> K
         requires some { 1 ≤ waiting }
         requires room { waiting ≤ self.now.room }
-        ensures { result ≡ K.kind.row_of (take K.kind.width (drop (K.kind.width * (self.now.room - waiting)) self.now.bytes)) }
+        ensures { result
+            ≡ K.kind.row_of (take K.kind.width (drop (K.kind.width * (self.now.room - waiting)) self.now.bytes)) }
     {
         let (from, _) = places::<K>(self.rows, waiting, self.room.len());
         K::get(&self.room[from..from + K::WIDTH])
@@ -119,7 +123,8 @@ fn read_piece<P: Spill, L: Ledger>(
     requires order { from ≤ to }
     requires fits { to ≤ length room.old }
     requires range { HasBytes (P.state spill.old) part (at + (to - from)) }
-    ensures read { OnOk result ((P.state spill.old).tells ≡ true → take (to - from) (drop from room.new) ≡ stretch (P.state spill.old) part at (to - from)) }
+    ensures read { OnOk result ((P.state spill.old).tells ≡ true
+        → take (to - from) (drop from room.new) ≡ stretch (P.state spill.old) part at (to - from)) }
     ensures same_faults { OnOk result ((P.state spill.new).faults ≡ (P.state spill.old).faults) }
     ensures failed { OnErr result (CountsOne (P.state spill.old).faults (P.state spill.new).faults) }
     ensures steps { steps.new ≡ steps.old + (to - from) }
@@ -172,7 +177,8 @@ impl<K: RowKind> Reader<K> {
         ensures left { result.left ≡ part.now.rows }
         ensures source { result.source ≡ part.now }
         ensures none_loaded { result.loaded ≡ 0 }
-        ensures reading { (page : PageBytes) (s : SpillState) → IsHeld K.kind part.now s → IsReading K.kind result page s }
+        ensures reading { (page : PageBytes) (s : SpillState) → IsHeld K.kind part.now s
+            → IsReading K.kind result page s }
     {
         Reader {
             source: part.same(),
@@ -196,9 +202,11 @@ impl<K: RowKind> Reader<K> {
         ensures reading { OnOk result (IsReading K.kind self.new page.new (P.state spill.new)) }
         ensures same_faults { OnOk result ((P.state spill.new).faults ≡ (P.state spill.old).faults) }
         ensures failed { OnErr result (CountsOne (P.state spill.old).faults (P.state spill.new).faults) }
-        ensures steps { OnOk result (steps.new + K.kind.width * self.old.loaded ≡ steps.old + K.kind.width * self.new.loaded) }
+        ensures steps { OnOk result (steps.new + K.kind.width * self.old.loaded ≡ steps.old
+            + K.kind.width * self.new.loaded) }
         ensures within { OnOk result (K.kind.width * self.new.loaded ≤ K.kind.width * length self.new.source.rows) }
-        ensures steps_failed { OnErr result (steps.new + K.kind.width * self.old.loaded ≤ steps.old + K.kind.width * length self.old.source.rows) }
+        ensures steps_failed { OnErr result (steps.new + K.kind.width * self.old.loaded ≤ steps.old
+            + K.kind.width * length self.old.source.rows) }
         ensures same_source { self.new.source ≡ self.old.source }
         ensures same_room { page.new.room ≡ page.old.room }
         ensures same { SameParts (P.state spill.old) (P.state spill.new) }
@@ -227,8 +235,10 @@ impl<K: RowKind> Reader<K> {
         ensures reading { OnOk result (IsReading K.kind self.new page.new (P.state spill.new)) }
         ensures same_faults { OnOk result ((P.state spill.new).faults ≡ (P.state spill.old).faults) }
         ensures failed { OnErr result (CountsOne (P.state spill.old).faults (P.state spill.new).faults) }
-        ensures steps { OnOk result (steps.new + K.kind.width * self.old.loaded ≡ steps.old + K.kind.width * self.new.loaded) }
-        ensures most { steps.new + K.kind.width * self.old.loaded ≤ steps.old + K.kind.width * length self.old.source.rows }
+        ensures steps { OnOk result (steps.new + K.kind.width * self.old.loaded ≡ steps.old
+            + K.kind.width * self.new.loaded) }
+        ensures most { steps.new + K.kind.width * self.old.loaded ≤ steps.old
+            + K.kind.width * length self.old.source.rows }
         ensures same_source { self.new.source ≡ self.old.source }
         ensures same_room { page.new.room ≡ page.old.room }
         ensures same { SameParts (P.state spill.old) (P.state spill.new) }
@@ -260,8 +270,10 @@ impl<K: RowKind> Reader<K> {
         ensures reading { OnOk result (IsReading K.kind self.new page.new (P.state spill.new)) }
         ensures same_faults { OnOk result ((P.state spill.new).faults ≡ (P.state spill.old).faults) }
         ensures failed { OnErr result (CountsOne (P.state spill.old).faults (P.state spill.new).faults) }
-        ensures steps { OnOk result (steps.new + K.kind.width * self.old.loaded ≡ steps.old + K.kind.width * self.new.loaded) }
-        ensures most { steps.new + K.kind.width * self.old.loaded ≤ steps.old + K.kind.width * length self.old.source.rows }
+        ensures steps { OnOk result (steps.new + K.kind.width * self.old.loaded ≡ steps.old
+            + K.kind.width * self.new.loaded) }
+        ensures most { steps.new + K.kind.width * self.old.loaded ≤ steps.old
+            + K.kind.width * length self.old.source.rows }
         ensures same_source { self.new.source ≡ self.old.source }
         ensures same_room { page.new.room ≡ page.old.room }
         ensures same { SameParts (P.state spill.old) (P.state spill.new) }
@@ -278,7 +290,9 @@ impl<K: RowKind> Reader<K> {
     fn give(&mut self, page: &Page) -> K
         requires some { 1 ≤ self.old.waiting }
         requires room { self.old.waiting ≤ page.now.room }
-        ensures row { result ≡ K.kind.row_of (take K.kind.width (drop (K.kind.width * (page.now.room - self.old.waiting)) page.now.bytes)) }
+        ensures row { result
+            ≡ K.kind.row_of (take K.kind.width
+            (drop (K.kind.width * (page.now.room - self.old.waiting)) page.now.bytes)) }
         ensures left { self.new.left ≡ drop 1 self.old.left }
         ensures waiting { self.new.waiting + 1 ≡ self.old.waiting }
         ensures loaded { self.new.loaded ≡ self.old.loaded }

@@ -55,8 +55,10 @@ impl<K: RowKind> Writer<K> {
 
         ensures failed { OnErr result (CountsOne (P.state spill.old).faults (P.state spill.new).faults) }
 
-        ensures within { K.kind.width * length self.old.rows + K.kind.width ≤ part_limit → (P.state spill.new).is_overrun ≡ (P.state spill.old).is_overrun }
-        ensures past { part_limit < K.kind.width * length self.old.rows + K.kind.width → (P.state spill.new).is_overrun ≡ true }
+        ensures within { K.kind.width * length self.old.rows + K.kind.width ≤ part_limit
+            → (P.state spill.new).is_overrun ≡ (P.state spill.old).is_overrun }
+        ensures past { part_limit < K.kind.width * length self.old.rows + K.kind.width
+            → (P.state spill.new).is_overrun ≡ true }
         ensures same_part { self.new.part ≡ self.old.part }
         ensures only { TouchesOnly self.old.part (P.state spill.old) (P.state spill.new) }
         ensures counts { (P.state spill.old).faults ≤ (P.state spill.new).faults }

@@ -8,7 +8,8 @@ use crate::tile_rect::{has_tile, tiles};
 use mercator_rows::rows::Rows;
 use mf_base::place::Rect;
 
-/// The sub-tiles of tile (x, y) at zoom `z` that a rectangle meets, the one in the north-west being the highest bit: four rows of four, from west to east.
+/// The sub-tiles of tile (x, y) at zoom `z` that a rectangle meets, the one in the north-west being the highest bit:
+/// four rows of four, from west to east.
 pub fn bitmap(rect: &Rect, z: u8, x: u32, y: u32, rows: &Rows) -> u16
     requires zoom { z ≤ 16 }
     requires x { x < 2 ^ z }

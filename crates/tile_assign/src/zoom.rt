@@ -5,7 +5,8 @@ ghost use Rattle.map_model.specs.Intervals.{effective_zoom};
 
 use mf_base::tile::Interval;
 
-/// The effective zoom of a feature's zoom: that of the interval's zooms at which the feature comes first. None comes exactly where the zoom is above the interval's maximum.
+/// The effective zoom of a feature's zoom: that of the interval's zooms at which the feature comes first. None comes
+/// exactly where the zoom is above the interval's maximum.
 pub fn effective_zoom(zoom: u8, interval: &Interval) -> Option<u8>
     ensures { result ≡ effective_zoom zoom interval.now }
 {

@@ -9,7 +9,8 @@ use mf_base::fixed::put_be;
 use mf_base::out_buf::OutBuf;
 use mf_base::tile::TileRect;
 
-/// Puts an entry of five bytes: the top bit is the water bit, the other 39 are the offset of the tile from the start of the sub-file.
+/// Puts an entry of five bytes: the top bit is the water bit, the other 39 are the offset of the tile from the start of
+/// the sub-file.
 pub fn put_entry(out: &mut OutBuf, water: bool, offset: u64)
     requires offset { offset < 2 ^ 39 }
     requires room { HasRoom out.old 5 }

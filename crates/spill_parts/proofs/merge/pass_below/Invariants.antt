@@ -10,9 +10,12 @@ invariant-loop-held g l = record {
   same_faults : (g.P.Spill.state l.spill).faults ≡ (g.P.Spill.state l.fn.spill).faults;
   reading : IsReading g.N.RowKind.kind l.reader l.page (g.P.Spill.state l.spill);
   source : l.reader.source ≡ l.fn.reader.source;
-  rest : (g.P.Spill.state l.fn.spill).tells ≡ true → from_key g.N.Keyed.key_of l.wanted (rest_of l.held l.reader.left) ≡ from_key g.N.Keyed.key_of l.wanted (rest_of l.fn.held l.fn.reader.left);
+  rest : (g.P.Spill.state l.fn.spill).tells ≡ true
+      → from_key g.N.Keyed.key_of l.wanted (rest_of l.held l.reader.left)
+      ≡ from_key g.N.Keyed.key_of l.wanted (rest_of l.fn.held l.fn.reader.left);
   steps : l.steps + g.N.RowKind.kind.width * l.fn.reader.loaded ≡ l.fn.steps + g.N.RowKind.kind.width * l.reader.loaded;
-  within : g.N.RowKind.kind.width * l.fn.reader.loaded ≤ g.N.RowKind.kind.width * length l.fn.reader.source.rows → g.N.RowKind.kind.width * l.reader.loaded ≤ g.N.RowKind.kind.width * length l.reader.source.rows;
+  within : g.N.RowKind.kind.width * l.fn.reader.loaded ≤ g.N.RowKind.kind.width * length l.fn.reader.source.rows
+      → g.N.RowKind.kind.width * l.reader.loaded ≤ g.N.RowKind.kind.width * length l.reader.source.rows;
 }
 
 abbrev pub decreases-loop-held : goal.decreases-loop-held
