@@ -1,8 +1,9 @@
 //! Parts of few and of many rows through a page of three.
 
-ghost use Rattle.std.specs.Prelude.{◌≤◌, codes};
-ghost use Rattle.mf_edge.specs.Spill.{IsNameOf};
+ghost use Rattle.std.specs.Prelude.{◌≡◌, ◌+◌, ◌<◌, ◌≤◌, true, length, IfOk, codes};
+ghost use Rattle.mf_edge.specs.Spill.{IsNameOf, most_parts};
 ghost use Rattle.mf_rows.specs.Kinds.{node_kind};
+ghost use Rattle.spill_parts.specs.Parts.{IsHeld};
 
 use super::*;
 use crate::part::order_part;
