@@ -1,34 +1,19 @@
 -- The first of whole varints, and how many they are.
-use Rattle.std.proofs.Common.{◌≡◌, ◌<◌, ◌&&◌, ℕ, suc, List, [], ◌∷◌, length, take, drop, get_or, map, refl, sym, ap}
-use Rattle.std.proofs.Common.{◌∙◌, arith, inl, inr, true, false, cond, Ok, Err, Result, nat_lt}
+use Rattle.std.proofs.Common.{◌≡◌, ◌<◌, ◌&&◌, ℕ, suc, List, [], ◌∷◌, length, take, drop, map, refl, sym, ap}
+use Rattle.std.proofs.Common.{◌∙◌, arith, inl, inr, true, false, cond, Ok, Err, nat_lt}
 use Rattle.std.specs.List.{list_all, count_by}
 use Rattle.std.proofs.lemmas.Bool.{cases_lt, cases_Bool, lt-ltb, le-ltb}
 use Rattle.std.proofs.lemmas.List.{take-append-drop, nil_from_length}
 use Rattle.std.proofs.lemmas.List.Sums.{sum_by-append}
 use Rattle.mf_base.specs.Spelling.{high_run, sevens}
-use Rattle.mf_base.specs.NumberReading.{varint_front, read_at}
+use Rattle.mf_base.specs.NumberReading.{varint_front}
 use Rattle.mf_base.specs.declared.number.VarintFault.{VarintFault}
 use Rattle.mf_base.proofs.Runs.{high_run-low, high_run-high}
-use Rattle.mf_base.proofs.VarintRead.{read-none, answer-within}
 use Rattle.mf_base.proofs.NumberLemmas.{varint_reads, varint_found}
 use Rattle.mf_base.proofs.StepLaws.{err_is_no_ok}
 use Rattle.mf_base.specs.Packed.{runs, is_varint, are_varints, packed_numbers}
 use Rattle.osm_model.specs.Wire.{IsPacked}
 use Rattle.osm_model.proofs.PackedLaws.{varint_is, packed_found, runs-nil, runs-append}
-
--- what is read at the start is what stands in front
-read_there : {F : Type 0} (front : Result (ℕ × ℕ) F) → front ≡ read_at 0 front
-read_there (Ok found) = ap (λ n. Ok (found.0, n)) (omega arith)
-read_there (Err fault) = refl
-
-pub front-read : (bytes : List ℕ) → read_at 0 (varint_front (drop 0 bytes)) ≡ varint_front bytes
-front-read bytes = sym (read_there (varint_front bytes))
-
--- a byte without the top bit is a varint
-pub front-one : (bytes : List ℕ) (byte : ℕ) → 0 < length bytes → byte ≡ get_or bytes 0 0 → byte < 128
-    → Ok (byte, 1) ≡ varint_front bytes
-front-one bytes byte some is low = ap (λ n. Ok (n, 1)) (omega arith)
-    ∙ answer-within bytes 0 1 0 byte (read-none bytes) some (omega arith) is low
 
 first_run_of : (bytes : List ℕ) (n size : ℕ) → varint_front bytes ≡ Ok (n, size)
     → runs bytes ≡ take size bytes ∷ runs (drop size bytes)

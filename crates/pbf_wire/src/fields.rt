@@ -5,7 +5,7 @@ ghost use Rattle.osm_model.specs.Wire as wire;
 ghost use Rattle.osm_model.specs.Wire.{number_front, bytes_front, value_front, field_front, fields, len};
 ghost use Rattle.pbf_wire.specs.Shown.{ShowsValue, ShowsField, Gives, BeginsWith, GivesNext};
 
-use crate::varint::first_varint;
+use mf_base::varint::first_varint;
 pub use osm_model::faults::WireFault;
 use osm_model::limits::FIELD_NUMBER_LIMIT;
 use std::marker::Model;

@@ -1,6 +1,6 @@
 //! Messages of the wire format: fields, packed lists, and the check of a message against a table of field rules.
 //!
-//! Read `fields` first, then `packed`, `rules`, `check` and `tables`; `varint` is below them, and `laws` has what
+//! Read `fields` first, then `packed`, `rules`, `check` and `tables`; `laws` has what
 //! follows for whoever goes over the fields.
 #![tactic(auto)]
 
@@ -11,4 +11,3 @@ pub mod lookup;
 pub mod packed;
 pub mod rules;
 pub mod tables;
-mod varint;

@@ -4,7 +4,7 @@ ghost use Rattle.std.specs.Prelude.{◌≡◌, true, drop, length, slice_get, op
 ghost use Rattle.mf_base.specs.Spelling.{unzigzag_of};
 ghost use Rattle.mf_base.specs.Packed.{are_varints, packed_numbers};
 
-use crate::varint::first_varint;
+use mf_base::varint::first_varint;
 use mf_base::zigzag::unzigzag;
 use std::marker::Model;
 
