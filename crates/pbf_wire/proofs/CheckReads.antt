@@ -87,7 +87,7 @@ any_rule : FieldRule
 any_rule = record { number = 0; form = Number }
 
 -- two rules at one place are of one field
-one_number : (rules : List FieldRule) (k j at : ℕ) → place_in rules k ≡ Some at → place_in rules j ≡ Some at → k ≡ j
+pub one_number : (rules : List FieldRule) (k j at : ℕ) → place_in rules k ≡ Some at → place_in rules j ≡ Some at → k ≡ j
 one_number rules k j at e f = sym ((rule_at rules k at e).same any_rule) ∙ (rule_at rules j at f).same any_rule
 
 pub notes-more : (rules : List FieldRule) (before : List ℕ) (seen : List Bool) (k at : ℕ) → length seen ≡ length rules

@@ -17,16 +17,16 @@ abbrev pub IsBehind : List ℕ → List ℕ → Type 0
 IsBehind whole left = (front : List ℕ) × (whole ≡ front ++ left)
 
 -- the bytes of a field stand before what follows it
-record HoldsBytes (left bytes rest : List ℕ) : Type 0 where
-  before : List ℕ
-  parts : left ≡ before ++ (bytes ++ rest)
+pub record HoldsBytes (left bytes rest : List ℕ) : Type 0 where
+  pub before : List ℕ
+  pub parts : left ≡ before ++ (bytes ++ rest)
 
 len_spelled : (f : Field) (bytes b : List ℕ) → f.value ≡ len bytes → SpellsValue f.value b
     → (size : List ℕ) × (b ≡ size ++ bytes)
 len_spelled f bytes b value spelled = let h : SpellsValue (len bytes) b =
     subst (λ v. SpellsValue v b) value spelled in (h.0, h.2)
 
-bytes_held : (left bytes : List ℕ) (f : Field) (n : ℕ) → field_front left ≡ Ok (f, n) → f.value ≡ len bytes
+pub bytes_held : (left bytes : List ℕ) (f : Field) (n : ℕ) → field_front left ≡ Ok (f, n) → f.value ≡ len bytes
     → HoldsBytes left bytes (drop n left)
 bytes_held left bytes f n front value =
     let (key, spelled, keyed, valued, whole) = (field_found left f n front).spelled.spelled in
@@ -40,7 +40,7 @@ bytes_held left bytes f n front value =
     }
 
 -- bytes between others, at their place
-placed : (x bytes rest whole : List ℕ) (at end : ℕ) → whole ≡ x ++ (bytes ++ rest) → at ≡ length x
+pub placed : (x bytes rest whole : List ℕ) (at end : ℕ) → whole ≡ x ++ (bytes ++ rest) → at ≡ length x
     → end ≡ length x + length bytes → slice_range whole at end ≡ bytes
 placed x bytes rest whole at end parts from to =
     let dropped : drop at whole ≡ bytes ++ rest = ap (drop at) parts ∙ drop_at x (bytes ++ rest) at (sym from) in

@@ -4,3 +4,4 @@ pub mod CheckReads
 pub mod WholeReads
 pub mod ValueLaws
 pub mod FieldWalk
+pub mod MessageReads

@@ -1,3 +1,4 @@
 pub mod Shown
 pub mod Check
 pub mod Lookup
+pub mod Message

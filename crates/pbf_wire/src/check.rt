@@ -65,7 +65,7 @@ fn check_field(field: &Field, rules: &[FieldRule], seen: &mut [bool]) -> Result<
 }
 
 // The place of the first rule of a field.
-fn place_of(rules: &[FieldRule], number: u32) -> Option<usize>
+pub(crate) fn place_of(rules: &[FieldRule], number: u32) -> Option<usize>
     ensures { result ≡ place_in rules.now number }
 {
     rules.iter().position(|rule| rule.number == number)

@@ -8,6 +8,8 @@ pub mod check;
 pub mod fields;
 pub mod laws;
 pub mod lookup;
+pub mod message;
 pub mod packed;
 pub mod rules;
 pub mod tables;
+pub mod walk;
