@@ -85,7 +85,8 @@ fn with_value(found: Found, value: &Value, end: usize) -> Found
     requires { (bytes : List ℕ) → ShowsValue value.now (wire.len bytes) → length bytes ≤ end }
     ensures { (message : List ℕ) (fs rest : List wire.Field) (k : ℕ) (f : wire.Field) → f.number ≡ k
         → ShowsValue value.now f.value
-        → end ≤ length message → ((bytes : List ℕ) → f.value ≡ wire.len bytes → slice_range message (end - length bytes) end ≡ bytes)
+        → end ≤ length message
+        → ((bytes : List ℕ) → f.value ≡ wire.len bytes → slice_range message (end - length bytes) end ≡ bytes)
         → FoundSoFar message fs k found (f ∷ rest) → FoundSoFar message fs k result rest }
 {
     match value {
