@@ -182,8 +182,7 @@ relation_at b fs id =
       entity =
           relation_of id
           (members_of b.strings (packed_of RELATION_ROLES_SID fs) (packed_sint64_of RELATION_MEMIDS fs)
-          (packed_of RELATION_TYPES fs))
-          (indexed_tags b.strings (packed_of RELATION_KEYS fs) (packed_of RELATION_VALS fs));
+          (packed_of RELATION_TYPES fs)) (indexed_tags b.strings (packed_of RELATION_KEYS fs) (packed_of RELATION_VALS fs));
     }
 
 relation-is : (b : PrimitiveBlock) → AreStrings b.strings → (bytes : List ℕ) → Holds IsObject (relation_object b bytes)
