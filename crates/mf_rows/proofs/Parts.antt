@@ -9,7 +9,7 @@ use Rattle.feature_model.specs.Points.{Part}
 use Rattle.mf_rows.specs.Units.{Unit16, point_in, part_in, with_part, shown_part, next_parts, parts_within, parts_in}
 
 -- the most makes no difference
-same-parts : (a b : ℕ) (units : List Unit16) → length units ≤ a → length units ≤ b
+pub same-parts : (a b : ℕ) (units : List Unit16) → length units ≤ a → length units ≤ b
     → parts_within a units ≡ parts_within b units
 unfolding parts_within
 same-parts zero zero [] la lb = refl
@@ -27,8 +27,8 @@ same-parts (suc a) (suc b) (first ∷ units) la lb =
         → ((n : ℕ) → f (drop n units) ≡ g (drop n units)) → next_parts p units f ≡ next_parts p units g
     same-next None units f g same = refl
     same-next (Some p) units f g same =
-        ap (λ more. if nat_le p.1 (length units) then option_map (with_part p.0 (take p.1 units)) more
-        else None) (same p.1)
+        ap (λ more. if nat_le p.1 (length units) then option_map (with_part p.0 (take p.1 units)) more else None)
+        (same p.1)
 
 -- What is known of units behind that of a part, where all of them spell parts.
 pub record FirstPart (role : Role) (points : ℕ) (units : List Unit16) (all : Option (List Part)) : Type 0 where
@@ -40,8 +40,9 @@ some_of_map : {A B : Type 0} (f : A → B) (x : Option A) → IsSome (option_map
 some_of_map f None some = some
 some_of_map f (Some x) some = refl
 
-pub first_part : (first : Unit16) (units : List Unit16) (role : Role) (points : ℕ) → part_in first ≡ Some (role, points)
-    → IsSome (parts_in (first ∷ units)) → FirstPart role points units (parts_in (first ∷ units))
+pub first_part : (first : Unit16) (units : List Unit16) (role : Role) (points : ℕ)
+    → part_in first ≡ Some (role, points) → IsSome (parts_in (first ∷ units))
+    → FirstPart role points units (parts_in (first ∷ units))
 unfolding parts_within
 first_part first units role points is some = by_room (cases_Bool (nat_le points (length units)))
   where
@@ -54,13 +55,13 @@ first_part first units role points is some = by_room (cases_Bool (nat_le points 
         let rest : parts_within (length units) (drop points units) ≡ parts_in (drop points units) =
         same-parts (length units) (length (drop points units)) (drop points units)
         (omega (arith, length-drop points units)) (omega arith) in
-        let all : parts_in (first ∷ units) ≡ option_map (with_part role (take points units))
-        (parts_in (drop points units)) =
+        let all : parts_in (first ∷ units)
+        ≡ option_map (with_part role (take points units)) (parts_in (drop points units)) =
         found ∙ (rw fits refl) ∙ ap (option_map (with_part role (take points units))) rest in
         record {
           within = leb-true points (length units) fits;
-          rest = some_of_map (with_part role (take points units)) (parts_in (drop points units))
-              (subst IsSome all some);
+          rest =
+              some_of_map (with_part role (take points units)) (parts_in (drop points units)) (subst IsSome all some);
           all_is = all;
         }
     by_room (inr past) =

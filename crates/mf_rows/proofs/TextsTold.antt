@@ -37,7 +37,7 @@ module _ (block : List ℕ) (slot : TextSlot) where
 
       by_slot : (is_it first ≡ true) ⊎ (is_it first ≡ false)
           → (find is_it spans ≡ Some s → s.start + s.len ≤ length block) → s.start + s.len ≤ length block
-      by_slot (inl e) more = let here : Some first ≡ Some s =
-          sym (rw e refl) ∙ found in rw (← some_is first s here) all.0
-      by_slot (inr e) more = let there : find is_it spans ≡ find is_it (first ∷ spans) =
-          rw e refl in more (there ∙ found)
+      by_slot (inl e) more = let here : Some first ≡ Some s = sym (rw e refl) ∙ found in
+          rw (← some_is first s here) all.0
+      by_slot (inr e) more = let there : find is_it spans ≡ find is_it (first ∷ spans) = rw e refl in
+          more (there ∙ found)

@@ -14,7 +14,8 @@ pub unit-of-part : (role : Role) (r points : ℕ) (mid new : List ℕ) → r ≡
     → drop 0 new ≡ field_bytes (number 1 r) ++ drop 1 mid → new ≡ part_unit role points
 unfolding part_unit big_endian
 unit-of-part role r points mid new is first last =
-    then (field_bytes (number 1 (role_number role))) (last ∙ ap (λ n. field_bytes (number 1 n) ++ drop 1 mid) is)
+    then (field_bytes (number 1 (role_number role))) (last
+    ∙ ap (λ n. field_bytes (number 1 n) ++ drop 1 mid) is)
     (then (field_bytes (number 8 points)) {y = drop 9 (replicate 16 0)} first refl)
 
 test : (unit u : List ℕ) (n : ℕ) (role : Role) (b : Bool) → n ≡ number_at 1 8 unit → u ≡ part_unit role n

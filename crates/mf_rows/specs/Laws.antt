@@ -38,8 +38,8 @@ module _ {K : Type 0} {kind : Kind K} {keys forms : List Form} {made : List Fiel
     long = λ r. length-fields (fields_of (kind.row r)) ∙ whole r;
     spelled = λ r known. subst (λ n. IsRow n (fields_bytes (fields_of (kind.row r)))) (whole r)
         (fields-small (fields_of (kind.row r)) known);
-    reads_back = λ r known. let bytes = fields_bytes (fields_of (kind.row r)) in
-        is.read bytes ∙ ap made (ap (λ fs. fields_at 0 fs bytes) (sym (is.row_forms r))
+    reads_back = λ r known. let bytes = fields_bytes (fields_of (kind.row r)) in is.read bytes
+        ∙ ap made (ap (λ fs. fields_at 0 fs bytes) (sym (is.row_forms r))
         ∙ fields-read_back (fields_of (kind.row r)) known) ∙ is.again r;
     puts_back = λ b small. ap fields_bytes (is.found b)
         ∙ fields-spelled forms b (subst (λ n. IsRow n b) (sym is.row_width) small);
@@ -57,8 +57,8 @@ module _ {K : Type 0} {kind : Kind K} {keys forms : List Form} {made : List Fiel
       key_known r known = all-front (kind.row r).key (kind.row r).rest known
 
 pub node-laws : HasLaws node_kind
-node-laws = table_laws {keys = numbers 8 ∷ []} {forms = numbers 8 ∷ coordinates ∷ coordinates ∷ []}
-    {made = λ fs. record { node = number_in 0 fs; lat = coordinate_in 1 fs; lon = coordinate_in 2 fs }} (record {
+node-laws = table_laws {keys = numbers 8 ∷ []} {forms = numbers 8 ∷ coordinates ∷ coordinates ∷ []} {made =
+    λ fs. record { node = number_in 0 fs; lat = coordinate_in 1 fs; lon = coordinate_in 2 fs }} (record {
       some = lit≤ tt;
       within = lit≤ tt;
       most = lit≤ tt;
@@ -73,8 +73,9 @@ node-laws = table_laws {keys = numbers 8 ∷ []} {forms = numbers 8 ∷ coordina
     })
 
 pub ref-laws : HasLaws ref_kind
-ref-laws = table_laws {keys = numbers 8 ∷ numbers 8 ∷ numbers 4 ∷ []} {forms = numbers 8 ∷ numbers 8 ∷ numbers 4 ∷ []}
-    {made = λ fs. record { node = number_in 0 fs; way = number_in 1 fs; place = number_in 2 fs }} (record {
+ref-laws = table_laws {keys = numbers 8 ∷ numbers 8 ∷ numbers 4 ∷ []} {forms =
+    numbers 8 ∷ numbers 8 ∷ numbers 4 ∷ []} {made =
+    λ fs. record { node = number_in 0 fs; way = number_in 1 fs; place = number_in 2 fs }} (record {
       some = lit≤ tt;
       within = lit≤ tt;
       most = lit≤ tt;
@@ -89,13 +90,14 @@ ref-laws = table_laws {keys = numbers 8 ∷ numbers 8 ∷ numbers 4 ∷ []} {for
     })
 
 pub point-laws : HasLaws point_kind
-point-laws = table_laws {keys = numbers 8 ∷ numbers 4 ∷ []}
-    {forms = numbers 8 ∷ numbers 4 ∷ numbers 8 ∷ coordinates ∷ coordinates ∷ []}
-    {made = λ fs. record {
+point-laws = table_laws {keys = numbers 8 ∷ numbers 4 ∷ []} {forms =
+    numbers 8 ∷ numbers 4 ∷ numbers 8 ∷ coordinates ∷ coordinates ∷ []} {made =
+    λ fs. record {
       way = number_in 0 fs;
       place = number_in 1 fs;
       node = number_in 2 fs;
-      lat = coordinate_in 3 fs;
+      lat =
+          coordinate_in 3 fs;
       lon = coordinate_in 4 fs;
     }} (record {
       some = lit≤ tt;
@@ -112,14 +114,11 @@ point-laws = table_laws {keys = numbers 8 ∷ numbers 4 ∷ []}
     })
 
 pub member-laws : HasLaws member_kind
-member-laws = table_laws {keys = numbers 8 ∷ numbers 8 ∷ numbers 4 ∷ []}
-    {forms = numbers 8 ∷ numbers 8 ∷ numbers 4 ∷ numbers 1 ∷ []}
-    {made = λ fs. record {
-      way = number_in 0 fs;
-      relation = number_in 1 fs;
-      member = number_in 2 fs;
-      role = number_in 3 fs;
-    }} (record {
+member-laws =
+    table_laws {keys = numbers 8 ∷ numbers 8 ∷ numbers 4 ∷ []} {forms =
+    numbers 8 ∷ numbers 8 ∷ numbers 4 ∷ numbers 1 ∷ []} {made =
+    λ fs. record { way = number_in 0 fs; relation = number_in 1 fs; member = number_in 2 fs; role = number_in 3 fs }}
+    (record {
       some = lit≤ tt;
       within = lit≤ tt;
       most = lit≤ tt;
@@ -134,13 +133,14 @@ member-laws = table_laws {keys = numbers 8 ∷ numbers 8 ∷ numbers 4 ∷ []}
     })
 
 pub rel-laws : HasLaws rel_kind
-rel-laws = table_laws {keys = numbers 8 ∷ numbers 4 ∷ numbers 4 ∷ []}
-    {forms = numbers 8 ∷ numbers 4 ∷ numbers 4 ∷ numbers 1 ∷ numbers 8 ∷ coordinates ∷ coordinates ∷ []}
-    {made = λ fs. record {
+rel-laws = table_laws {keys = numbers 8 ∷ numbers 4 ∷ numbers 4 ∷ []} {forms =
+    numbers 8 ∷ numbers 4 ∷ numbers 4 ∷ numbers 1 ∷ numbers 8 ∷ coordinates ∷ coordinates ∷ []} {made =
+    λ fs. record {
       relation = number_in 0 fs;
       member = number_in 1 fs;
       place = number_in 2 fs;
-      role = number_in 3 fs;
+      role =
+          number_in 3 fs;
       node = number_in 4 fs;
       lat = coordinate_in 5 fs;
       lon = coordinate_in 6 fs;
@@ -159,10 +159,10 @@ rel-laws = table_laws {keys = numbers 8 ∷ numbers 4 ∷ numbers 4 ∷ []}
     })
 
 pub feature-laws : HasLaws feature_kind
-feature-laws = table_laws {keys = numbers 1 ∷ numbers 8 ∷ numbers 4 ∷ []}
-    {forms = numbers 1 ∷ numbers 8 ∷ numbers 4 ∷ units ∷ []}
-    {made = λ fs. record { kind = number_in 0 fs; id = number_in 1 fs; place = number_in 2 fs; unit = unit_in 3 fs }}
-    (record {
+feature-laws =
+    table_laws {keys = numbers 1 ∷ numbers 8 ∷ numbers 4 ∷ []} {forms =
+    numbers 1 ∷ numbers 8 ∷ numbers 4 ∷ units ∷ []} {made =
+    λ fs. record { kind = number_in 0 fs; id = number_in 1 fs; place = number_in 2 fs; unit = unit_in 3 fs }} (record {
       some = lit≤ tt;
       within = lit≤ tt;
       most = lit≤ tt;
@@ -177,8 +177,8 @@ feature-laws = table_laws {keys = numbers 1 ∷ numbers 8 ∷ numbers 4 ∷ []}
     })
 
 pub shape-laws : HasLaws shape_kind
-shape-laws = table_laws {keys = numbers 8 ∷ numbers 4 ∷ []} {forms = numbers 8 ∷ numbers 4 ∷ units ∷ []}
-    {made = λ fs. record { number = number_in 0 fs; place = number_in 1 fs; unit = unit_in 2 fs }} (record {
+shape-laws = table_laws {keys = numbers 8 ∷ numbers 4 ∷ []} {forms = numbers 8 ∷ numbers 4 ∷ units ∷ []} {made =
+    λ fs. record { number = number_in 0 fs; place = number_in 1 fs; unit = unit_in 2 fs }} (record {
       some = lit≤ tt;
       within = lit≤ tt;
       most = lit≤ tt;
@@ -193,14 +193,16 @@ shape-laws = table_laws {keys = numbers 8 ∷ numbers 4 ∷ []} {forms = numbers
     })
 
 pub tile-laws : HasLaws tile_kind
-tile-laws = table_laws {keys = numbers 1 ∷ numbers 4 ∷ numbers 4 ∷ numbers 1 ∷ numbers 1 ∷ numbers 8 ∷ numbers 4 ∷ []}
-    {forms = numbers 1 ∷ numbers 4 ∷ numbers 4 ∷ numbers 1 ∷ numbers 1 ∷ numbers 8 ∷ numbers 4 ∷ units ∷ []}
-    {made = λ fs. record {
+tile-laws = table_laws {keys =
+    numbers 1 ∷ numbers 4 ∷ numbers 4 ∷ numbers 1 ∷ numbers 1 ∷ numbers 8 ∷ numbers 4 ∷ []} {forms =
+    numbers 1 ∷ numbers 4 ∷ numbers 4 ∷ numbers 1 ∷ numbers 1 ∷ numbers 8 ∷ numbers 4 ∷ units ∷ []} {made =
+    λ fs. record {
       interval = number_in 0 fs;
       y = number_in 1 fs;
       x = number_in 2 fs;
       class = number_in 3 fs;
-      zoom = number_in 4 fs;
+      zoom =
+          number_in 4 fs;
       number = number_in 5 fs;
       place = number_in 6 fs;
       unit = unit_in 7 fs;
@@ -219,14 +221,15 @@ tile-laws = table_laws {keys = numbers 1 ∷ numbers 4 ∷ numbers 4 ∷ numbers
     })
 
 pub index-laws : HasLaws index_kind
-index-laws = table_laws {keys = numbers 1 ∷ numbers 4 ∷ numbers 4 ∷ []}
-    {forms = numbers 1 ∷ numbers 4 ∷ numbers 4 ∷ numbers 1 ∷ numbers 8 ∷ []}
-    {made = λ fs. record {
+index-laws = table_laws {keys = numbers 1 ∷ numbers 4 ∷ numbers 4 ∷ []} {forms =
+    numbers 1 ∷ numbers 4 ∷ numbers 4 ∷ numbers 1 ∷ numbers 8 ∷ []} {made =
+    λ fs. record {
       interval = number_in 0 fs;
       y = number_in 1 fs;
       x = number_in 2 fs;
       water = number_in 3 fs;
-      size = number_in 4 fs;
+      size =
+          number_in 4 fs;
     }} (record {
       some = lit≤ tt;
       within = lit≤ tt;

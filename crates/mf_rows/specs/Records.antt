@@ -85,7 +85,8 @@ description_told h texts = record {
   choice = record {
     tags = map (kept_told texts) (enumerate_from 0 h.tags.items);
     zoom = h.zoom;
-    layer = h.layer;
+    layer =
+        h.layer;
     water = h.water;
     label = h.label;
     coast = h.coast;

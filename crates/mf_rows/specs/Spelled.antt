@@ -118,8 +118,8 @@ fields-moved : (fs : List Form) (at more : ℕ) (bytes : List ℕ)
 fields-moved [] at more bytes = refl
 fields-moved (f ∷ fs) at more bytes =
     let place : drop (at + more) bytes ≡ drop more (drop at bytes) = sym (drop-drop more at bytes) in
-    let one : field_at (at + more) f bytes ≡ field_at more f (drop at bytes) =
-    field-moved f (at + more) bytes ∙ ap (field_at 0 f) place ∙ sym (field-moved f more (drop at bytes)) in
+    let one : field_at (at + more) f bytes ≡ field_at more f (drop at bytes) = field-moved f (at + more) bytes
+    ∙ ap (field_at 0 f) place ∙ sym (field-moved f more (drop at bytes)) in
     let next : fields_at (at + more + form_width f) fs bytes ≡ fields_at (more + form_width f) fs (drop at bytes) =
     ap (λ n. fields_at n fs bytes) (omega arith) ∙ fields-moved fs at (more + form_width f) bytes in
     rw (one, next) refl
@@ -158,11 +158,11 @@ field-spelled units bytes small long = whole-unit (take 16 bytes) (omega (arith,
 -- bytes are spelled by the fields that are read of them
 pub fields-spelled : (fs : List Form) (bytes : List ℕ) → IsRow (forms_width fs) bytes
     → fields_bytes (fields_at 0 fs bytes) ≡ bytes
-fields-spelled fs bytes is =
-    by_forms fs bytes is.small (omega (arith, is.many)) ∙ take_all (forms_width fs) bytes (omega (arith, is.many))
+fields-spelled fs bytes is = by_forms fs bytes is.small (omega (arith, is.many))
+    ∙ take_all (forms_width fs) bytes (omega (arith, is.many))
   where
-    by_forms : (fs : List Form) (bytes : List ℕ) → ((i : ℕ) → slice_index bytes i < 256) → forms_width fs ≤ length bytes
-        → fields_bytes (fields_at 0 fs bytes) ≡ take (forms_width fs) bytes
+    by_forms : (fs : List Form) (bytes : List ℕ) → ((i : ℕ) → slice_index bytes i < 256)
+        → forms_width fs ≤ length bytes → fields_bytes (fields_at 0 fs bytes) ≡ take (forms_width fs) bytes
     by_forms [] bytes small long = refl
     by_forms (f ∷ fs) bytes small long =
         let w = form_width f in
@@ -175,22 +175,22 @@ fields-spelled fs bytes is =
         take-add : (a b : ℕ) (bytes : List ℕ) → take (a + b) bytes ≡ take a bytes ++ take b (drop a bytes)
         take-add zero b bytes = ap (λ n. take n bytes) (zero-add b)
         take-add (suc a) b [] = ap (λ n. take n []) (suc-add a b) ∙ sym (take_all b [] (omega arith))
-        take-add (suc a) b (x ∷ bytes) =
-            ap (λ n. take n (x ∷ bytes)) (suc-add a b) ∙ ap (λ more. x ∷ more) (take-add a b bytes)
+        take-add (suc a) b (x ∷ bytes) = ap (λ n. take n (x ∷ bytes)) (suc-add a b)
+            ∙ ap (λ more. x ∷ more) (take-add a b bytes)
 
 -- so many bytes
 pub length-fields : (fields : List Field) → length (fields_bytes fields) ≡ forms_width (map form_of fields)
 length-fields [] = refl
-length-fields (f ∷ fs) =
-    length-append (field_bytes f) (fields_bytes fs) ∙ omega (arith, length-field f, length-fields fs)
+length-fields (f ∷ fs) = length-append (field_bytes f) (fields_bytes fs)
+    ∙ omega (arith, length-field f, length-fields fs)
 
 -- each of them is one
 pub fields-small : (fields : List Field) → AreFields fields
     → IsRow (forms_width (map form_of fields)) (fields_bytes fields)
 fields-small fields are = record { many = length-fields fields; small = all-small fields are }
   where
-    small-append : (xs ys : List ℕ) → ((i : ℕ) → slice_index xs i < 256) → ((i : ℕ) → slice_index ys i < 256) → (i : ℕ)
-        → slice_index (xs ++ ys) i < 256
+    small-append : (xs ys : List ℕ) → ((i : ℕ) → slice_index xs i < 256) → ((i : ℕ) → slice_index ys i < 256)
+        → (i : ℕ) → slice_index (xs ++ ys) i < 256
     small-append [] ys front back i = back i
     small-append (x ∷ xs) ys front back zero = front 0
     small-append (x ∷ xs) ys front back (suc i) = small-append xs ys (λ k. front (suc k)) back i
@@ -222,8 +222,8 @@ keys-order (unit bytes ∷ fs) gs fa fb alike = absurd alike
 keys-order (number v m ∷ fs) (coordinate z ∷ gs) fa fb alike = absurd alike
 keys-order (number v m ∷ fs) (unit bytes ∷ gs) fa fb alike = absurd alike
 keys-order (number v m ∷ fs) (number w n ∷ gs) fa fb alike =
-    let same_length : length (big_bytes v m) ≡ length (big_bytes w n) =
-    length-bytes_high_first v m ∙ alike.0 ∙ sym (length-bytes_high_first w n) in
+    let same_length : length (big_bytes v m) ≡ length (big_bytes w n) = length-bytes_high_first v m ∙ alike.0
+    ∙ sym (length-bytes_high_first w n) in
     let one : slice_cmp nat_cmp (big_bytes v m) (big_bytes w n) ≡ nat_cmp m n =
     rw alike.0 (big_bytes-order w m n (rw (← alike.0) fa.0) fb.0) in
     slice_cmp-append (big_bytes v m) (big_bytes w n) (fields_bytes fs) (fields_bytes gs) same_length

@@ -1,12 +1,13 @@
 -- The units of 16 bytes that spell the parts and points of a record: this project's profile, on row kinds. What the
 -- bytes of a part's unit are is this project's own.
-use Rattle.std.specs.Prelude.{ℕ, zero, suc, nat_le, if◌then◌else◌, List, [], ◌∷◌, map, flat_map, length, take, drop}
-use Rattle.std.specs.Prelude.{bytes_eq, Option, Some, None, option_map}
+use Rattle.std.specs.Prelude.{ℕ, zero, suc, ◌^◌, ◌<◌, nat_le, if◌then◌else◌, List, [], ◌∷◌, map, flat_map, length, take}
+use Rattle.std.specs.Prelude.{drop, bytes_eq, Option, Some, None, option_map}
+use Rattle.std.specs.List.{AllByRecursion}
 use Rattle.mf_base.specs.declared.kind.Role.{Role}
 use Rattle.feature_model.specs.Points.{Point, Part}
 use Rattle.mf_rows.specs.Fields.{number, fields_bytes}
 use Rattle.mf_rows.specs.Places.{number_at}
-use Rattle.mf_rows.specs.RowKinds.{bytes_of}
+use Rattle.mf_rows.specs.RowKinds.{bytes_of, IsOf}
 use Rattle.mf_rows.specs.Kinds.{node_kind}
 use Rattle.mf_rows.specs.declared.kinds.NodeRow.{NodeRow}
 
@@ -53,8 +54,8 @@ or_else (Some this) that = Some this
 
 -- the role and the number of points that a unit tells, where it is that of a part
 unfoldable pub part_in : Unit16 → Option (Role × ℕ)
-part_in unit = let points =
-    number_at 1 8 unit in or_else (part_of unit points Role.Outer) (part_of unit points Role.Inner)
+part_in unit = let points = number_at 1 8 unit in
+    or_else (part_of unit points Role.Outer) (part_of unit points Role.Inner)
 
 -- the units of a part and its points
 abbrev pub part_units : Part → List Unit16
@@ -89,3 +90,7 @@ parts_in units = parts_within (length units) units
 -- a part of these points
 abbrev pub shown_part : Role → List Point → Part
 shown_part role points = record { role = role; points = points }
+
+-- a part that has units: fewer than 2^64 points, each of them a row of a node
+abbrev pub IsPart : Part → Type 0
+IsPart p = (length p.points < 2 ^ 64) × AllByRecursion (λ (q : Point). IsOf node_kind (row_of_point q)) p.points

@@ -115,8 +115,8 @@ fn part_of<'a>(
     requires { IsSome (parts_in (first.now ∷ rest.now)) }
     ensures there { IsSome result }
     ensures rest { IfSome result (λ r. IsSome (parts_in r.2.now)) }
-    ensures some { IfSome result (λ r. parts_in (first.now ∷ rest.now)
-        ≡ option_map (with_part r.0 r.1.now) (parts_in r.2.now)) }
+    ensures some { IfSome result
+        (λ r. parts_in (first.now ∷ rest.now) ≡ option_map (with_part r.0 r.1.now) (parts_in r.2.now)) }
 {
     match read_part_unit(first) {
         Some((role, points)) => {

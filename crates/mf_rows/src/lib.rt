@@ -13,6 +13,7 @@ mod fields;
 pub mod head;
 pub mod kind;
 pub mod kinds;
+pub mod laws;
 mod row_kinds;
 pub mod rows;
 pub mod units;

@@ -29,7 +29,8 @@ impl<'a> Model for View<'a> {
     ghost view = { λ v. record {
       head = v.head.now;
       texts = texts_told v.texts.block.now v.texts.spans.items;
-      spot = spot_in v.head.now.kind v.drawn.now;
+      spot =
+          spot_in v.head.now.kind v.drawn.now;
       parts = unwrap_or (drawn_parts v.head.now.kind v.drawn.now) [];
     } };
 

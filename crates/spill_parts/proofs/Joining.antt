@@ -105,8 +105,8 @@ pub rows_none : {R N O : Type 0} (ref_key : R → ℕ) (node_key : N → ℕ) (j
     → O) (ns : List N) (rs : List R) (out all : List O)
     → rs ≡ [] → out ++ joined_rows ref_key node_key join ns rs ≡ all → out ≡ all
 unfolding joined_rows
-rows_none ref_key node_key join ns rs out all none before =
-    sym (append-nil out) ∙ ap (λ r. out ++ joined_rows ref_key node_key join ns r) (sym none) ∙ before
+rows_none ref_key node_key join ns rs out all none before = sym (append-nil out)
+    ∙ ap (λ r. out ++ joined_rows ref_key node_key join ns r) (sym none) ∙ before
 
 -- the row that was read
 pub told_row : {R : Type 0} (tells : Bool) (left : List R) (row : R) (left_now : List R)
@@ -131,10 +131,12 @@ added_begun begun = record { fresh = begun.fresh; count = begun.count; others = 
 
 pub added_read : {part : ℕ} {a b c : SpillState} → IsAdded part a b → SameParts b c → IsAdded part a c
 added_read {part} {a} {b} {c} added same =
-    subst (IsAdded part a) (sym same) (record {
+    subst (IsAdded part a) (sym same)
+    (record {
       fresh = added.fresh;
       count = added.count;
-      others = record { size = added.others.size; bytes = added.others.bytes };
+      others =
+          record { size = added.others.size; bytes = added.others.bytes };
     })
 
 pub added_written : {part : ℕ} {a b c : SpillState} → IsAdded part a b → TouchesOnly part b c → IsAdded part a c
@@ -143,7 +145,8 @@ added_written {part} {a} {b} {c} added only = record {
   count = only.count ∙ added.count;
   others = record {
     size = λ q apart. only.others.size q apart ∙ added.others.size q apart;
-    bytes = λ q apart. only.others.bytes q apart ∙ added.others.bytes q apart;
+    bytes =
+        λ q apart. only.others.bytes q apart ∙ added.others.bytes q apart;
   };
 }
 

@@ -34,8 +34,8 @@ pub begun_kept : {K : Type 0} {kind : Kind K} {p : Piece} {w : Part K} {s s' : S
 begun_kept {w = w} begun same is = there_kept w.part (apart_from_begun begun is) begun.others same.tells is
 
 -- a reader is as it was where only faults were counted
-pub reading_same : {K : Type 0} {kind : Kind K} {r : Reading K} {page : PageBytes} {s s' : SpillState} → SameParts s s'
-    → IsReading kind r page s → IsReading kind r page s'
+pub reading_same : {K : Type 0} {kind : Kind K} {r : Reading K} {page : PageBytes} {s s' : SpillState}
+    → SameParts s s' → IsReading kind r page s → IsReading kind r page s'
 reading_same {kind = kind} {r = r} {page = page} {s = s} {s' = s'} same is =
     subst (IsReading kind r page) (sym same) (again s'.faults)
   where
@@ -43,7 +43,8 @@ reading_same {kind = kind} {r = r} {page = page} {s = s} {s' = s'} same is =
     again n = record {
       held = record { size = is.held.size; bytes = is.held.bytes };
       given = is.given;
-      some = is.some;
+      some =
+          is.some;
       within = is.within;
       on_page = is.on_page;
     }
@@ -66,8 +67,10 @@ same_store {a = a} {b = b} {c = c} same parts = subst (SameStore a) (sym parts) 
     again n = record { name = same.name; started = same.started; tells = same.tells }
 
 pub same_trans : {a b c : SpillState} → SameStore a b → SameStore b c → SameStore a c
-same_trans first second = record {
-  name = second.name ∙ first.name;
-  started = second.started ∙ first.started;
-  tells = second.tells ∙ first.tells;
-}
+same_trans first second =
+    record {
+      name = second.name ∙ first.name;
+      started = second.started ∙ first.started;
+      tells = second.tells
+          ∙ first.tells;
+    }

@@ -50,8 +50,8 @@ module _ {K : Type 0} (kind : Kind K) where
       → map (bytes_of kind) (ordered_rows kind rows) ≡ ascending (map (bytes_of kind) rows)
   unfolding ordered_rows ascending
   bytes_ordered [] = refl
-  bytes_ordered (row ∷ rows) =
-      bytes_put row (ordered_rows kind rows) ∙ ap (put_in (bytes_of kind row)) (bytes_ordered rows)
+  bytes_ordered (row ∷ rows) = bytes_put row (ordered_rows kind rows)
+      ∙ ap (put_in (bytes_of kind row)) (bytes_ordered rows)
 
   length_put : (row : K) (rows : List K) → length (put_row_in kind row rows) ≡ suc (length rows)
   length_put row [] = refl

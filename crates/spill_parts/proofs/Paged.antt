@@ -81,8 +81,8 @@ module _ {K : Type 0} (kind : Kind K) (long : (r : K) → length (bytes_of kind 
         → take (kind.width * n) page ≡ take (kind.width * n) (drop (kind.width * loaded) (rows_bytes kind rows))
         → rows_in kind n page ≡ take n (drop loaded rows)
     rows_loaded loaded n rows page all l e =
-        let moved : take (kind.width * n) page ≡ take (kind.width * n) (rows_bytes kind (drop loaded rows)) =
-        e ∙ ap (take (kind.width * n)) (drop-rows_bytes loaded rows (omega (arith, l))) in
+        let moved : take (kind.width * n) page ≡ take (kind.width * n) (rows_bytes kind (drop loaded rows)) = e
+        ∙ ap (take (kind.width * n)) (drop-rows_bytes loaded rows (omega (arith, l))) in
         ap (map kind.row_of) (cut-take kind.width n page ∙ ap (cut_rows kind.width n) moved
         ∙ sym (cut-take kind.width n (rows_bytes kind (drop loaded rows))))
         ∙ rows_in-rows n (drop loaded rows) (all-drop loaded rows all) (omega (arith, l, length-drop loaded rows))
@@ -109,8 +109,8 @@ pub ordered_part : {K : Type 0} (kind : Kind K) → ((r : K) → length (bytes_o
     → IsOrdered kind p p_now s_now
 ordered_part kind long p p_now number s s_now same held part is size tells made =
     let len : length p_now.rows ≡ length p.rows = ap length is ∙ length-ordered kind p.rows in
-    let bytes : map (bytes_of kind) p_now.rows ≡ ascending (map (bytes_of kind) p.rows) =
-    ap (map (bytes_of kind)) is ∙ bytes_ordered kind p.rows in
+    let bytes : map (bytes_of kind) p_now.rows ≡ ascending (map (bytes_of kind) p.rows) = ap (map (bytes_of kind)) is
+    ∙ bytes_ordered kind p.rows in
     let place : p_now.part ≡ number = part ∙ sym same in
     record {
       part = part;
@@ -161,7 +161,8 @@ module _ {K : Type 0} {kind : Kind K} where
         held = rw same (there_same parts is.held);
         given = (
           done,
-          ap (λ (p : Part K). p.rows) same ∙ is.given.1 ∙ ap (λ (rows : List K). done ++ rows) (sym left),
+          ap (λ (p : Part K). p.rows) same ∙ is.given.1
+              ∙ ap (λ (rows : List K). done ++ rows) (sym left),
           omega (arith, loaded, is.given.2, none),
         );
         some = rw same (omega (arith, loaded, within));
@@ -193,8 +194,8 @@ module _ {K : Type 0} {kind : Kind K} where
       let page_is : s.tells ≡ true
       → kind.row_of (take kind.width at) ∷ rows_in kind k (drop kind.width at) ≡ x ∷ take k r_now.left = λ told. (
       let many : r.waiting ≡ suc k = omega (arith, waiting) in
-      ap (λ n. rows_in kind n at) (sym many) ∙ is.on_page told ∙ ap (λ n. take n r.left) many ∙ ap (take (suc k)) split)
-      in
+      ap (λ n. rows_in kind n at) (sym many) ∙ is.on_page told ∙ ap (λ n. take n r.left) many
+      ∙ ap (take (suc k)) split) in
       let moved : drop kind.width at ≡ drop (kind.width * (page.room - k)) page.bytes =
       drop-drop kind.width (kind.width * (page.room - r.waiting)) page.bytes
       ∙ ap (λ n. drop n page.bytes) (next_place kind.width page.room r.waiting k waiting is.within) in (
@@ -203,7 +204,8 @@ module _ {K : Type 0} {kind : Kind K} where
           given = (
             done ++ x ∷ [],
             ap (λ (p : Part K). p.rows) same ∙ is.given.1
-                ∙ ap (λ (rows : List K). done ++ rows) split ∙ sym (append_assoc done (x ∷ []) r_now.left),
+                ∙ ap (λ (rows : List K). done ++ rows) split
+                ∙ sym (append_assoc done (x ∷ []) r_now.left),
             omega (arith, loaded, is.given.2, waiting, length_push done x),
           );
           some = rw same (omega (arith, loaded, is.some));

@@ -1,6 +1,7 @@
 //! Parts of rows: written, ordered and read.
 #![tactic(auto)]
 
+mod handed;
 mod merge;
 mod part;
 mod reader;
@@ -8,6 +9,7 @@ mod told;
 mod uses;
 mod writer;
 
+pub use handed::{Ingested, Shapes};
 pub use merge::{JoinOf, Keyed, join};
 pub use part::{Part, forget_part, order_part};
 pub use reader::{Page, Reader};

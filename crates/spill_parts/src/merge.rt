@@ -86,10 +86,10 @@ fn pass_below<N: Keyed, P: Spill, L: Ledger>(
     ensures stops { IfOk result (λ now. is_below N.key_of wanted now ≡ false) }
     ensures reading { OnOk result (IsReading N.kind reader.new page.new (P.state spill.new)) }
     ensures same_faults { OnOk result ((P.state spill.new).faults ≡ (P.state spill.old).faults) }
-    ensures steps { OnOk result (steps.new + N.kind.width * reader.old.loaded ≡ steps.old
-        + N.kind.width * reader.new.loaded) }
-    ensures steps_failed { OnErr result (steps.new + N.kind.width * reader.old.loaded ≤ steps.old
-        + N.kind.width * length reader.old.source.rows) }
+    ensures steps { OnOk result
+        (steps.new + N.kind.width * reader.old.loaded ≡ steps.old + N.kind.width * reader.new.loaded) }
+    ensures steps_failed { OnErr result
+        (steps.new + N.kind.width * reader.old.loaded ≤ steps.old + N.kind.width * length reader.old.source.rows) }
     ensures within { OnOk result (N.kind.width * reader.old.loaded ≤ N.kind.width * length reader.old.source.rows
         → N.kind.width * reader.new.loaded ≤ N.kind.width * length reader.new.source.rows) }
     ensures failed { OnErr result (CountsOne (P.state spill.old).faults (P.state spill.new).faults) }

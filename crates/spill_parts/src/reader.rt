@@ -83,8 +83,8 @@ impl Page {
         requires there { loaded + n ≤ length part.now.rows }
         requires room { n ≤ self.old.room }
         ensures loaded { OnOk result ((P.state spill.old).tells ≡ true
-            → take (K.kind.width * n) (drop (K.kind.width * (self.old.room - n)) self.new.bytes) ≡ stretch (P.state
-            spill.old) part.now.part (K.kind.width * loaded) (K.kind.width * n)) }
+            → take (K.kind.width * n) (drop (K.kind.width * (self.old.room - n)) self.new.bytes)
+            ≡ stretch (P.state spill.old) part.now.part (K.kind.width * loaded) (K.kind.width * n)) }
         ensures same_faults { OnOk result ((P.state spill.new).faults ≡ (P.state spill.old).faults) }
         ensures failed { OnErr result (CountsOne (P.state spill.old).faults (P.state spill.new).faults) }
         ensures steps { steps.new ≡ steps.old + K.kind.width * n }
@@ -202,11 +202,11 @@ impl<K: RowKind> Reader<K> {
         ensures reading { OnOk result (IsReading K.kind self.new page.new (P.state spill.new)) }
         ensures same_faults { OnOk result ((P.state spill.new).faults ≡ (P.state spill.old).faults) }
         ensures failed { OnErr result (CountsOne (P.state spill.old).faults (P.state spill.new).faults) }
-        ensures steps { OnOk result (steps.new + K.kind.width * self.old.loaded ≡ steps.old
-            + K.kind.width * self.new.loaded) }
+        ensures steps { OnOk result
+            (steps.new + K.kind.width * self.old.loaded ≡ steps.old + K.kind.width * self.new.loaded) }
         ensures within { OnOk result (K.kind.width * self.new.loaded ≤ K.kind.width * length self.new.source.rows) }
-        ensures steps_failed { OnErr result (steps.new + K.kind.width * self.old.loaded ≤ steps.old
-            + K.kind.width * length self.old.source.rows) }
+        ensures steps_failed { OnErr result
+            (steps.new + K.kind.width * self.old.loaded ≤ steps.old + K.kind.width * length self.old.source.rows) }
         ensures same_source { self.new.source ≡ self.old.source }
         ensures same_room { page.new.room ≡ page.old.room }
         ensures same { SameParts (P.state spill.old) (P.state spill.new) }
@@ -235,10 +235,10 @@ impl<K: RowKind> Reader<K> {
         ensures reading { OnOk result (IsReading K.kind self.new page.new (P.state spill.new)) }
         ensures same_faults { OnOk result ((P.state spill.new).faults ≡ (P.state spill.old).faults) }
         ensures failed { OnErr result (CountsOne (P.state spill.old).faults (P.state spill.new).faults) }
-        ensures steps { OnOk result (steps.new + K.kind.width * self.old.loaded ≡ steps.old
-            + K.kind.width * self.new.loaded) }
-        ensures most { steps.new + K.kind.width * self.old.loaded ≤ steps.old
-            + K.kind.width * length self.old.source.rows }
+        ensures steps { OnOk result
+            (steps.new + K.kind.width * self.old.loaded ≡ steps.old + K.kind.width * self.new.loaded) }
+        ensures most { steps.new + K.kind.width * self.old.loaded
+            ≤ steps.old + K.kind.width * length self.old.source.rows }
         ensures same_source { self.new.source ≡ self.old.source }
         ensures same_room { page.new.room ≡ page.old.room }
         ensures same { SameParts (P.state spill.old) (P.state spill.new) }
@@ -270,10 +270,10 @@ impl<K: RowKind> Reader<K> {
         ensures reading { OnOk result (IsReading K.kind self.new page.new (P.state spill.new)) }
         ensures same_faults { OnOk result ((P.state spill.new).faults ≡ (P.state spill.old).faults) }
         ensures failed { OnErr result (CountsOne (P.state spill.old).faults (P.state spill.new).faults) }
-        ensures steps { OnOk result (steps.new + K.kind.width * self.old.loaded ≡ steps.old
-            + K.kind.width * self.new.loaded) }
-        ensures most { steps.new + K.kind.width * self.old.loaded ≤ steps.old
-            + K.kind.width * length self.old.source.rows }
+        ensures steps { OnOk result
+            (steps.new + K.kind.width * self.old.loaded ≡ steps.old + K.kind.width * self.new.loaded) }
+        ensures most { steps.new + K.kind.width * self.old.loaded
+            ≤ steps.old + K.kind.width * length self.old.source.rows }
         ensures same_source { self.new.source ≡ self.old.source }
         ensures same_room { page.new.room ≡ page.old.room }
         ensures same { SameParts (P.state spill.old) (P.state spill.new) }
@@ -291,8 +291,8 @@ impl<K: RowKind> Reader<K> {
         requires some { 1 ≤ self.old.waiting }
         requires room { self.old.waiting ≤ page.now.room }
         ensures row { result
-            ≡ K.kind.row_of (take K.kind.width
-            (drop (K.kind.width * (page.now.room - self.old.waiting)) page.now.bytes)) }
+            ≡ K.kind.row_of
+            (take K.kind.width (drop (K.kind.width * (page.now.room - self.old.waiting)) page.now.bytes)) }
         ensures left { self.new.left ≡ drop 1 self.old.left }
         ensures waiting { self.new.waiting + 1 ≡ self.old.waiting }
         ensures loaded { self.new.loaded ≡ self.old.loaded }

@@ -1,9 +1,8 @@
-//! Loops over the rows of parts, to see that the contracts of the calls suffice.
+//! A part is copied: the form of a loop over a reader.
 
-ghost use Rattle.std.specs.Prelude.{◌≡◌, ◌≢◌, ◌⊎◌, ◌↔◌, ℕ, ◌+◌, ◌*◌, ◌<◌, ◌≤◌, true, false, [], ◌∷◌, ◌++◌, length};
-ghost use Rattle.std.specs.Prelude.{Option, Some, None, Ok, IfOk, OnOk, OnErr, IsSome};
+ghost use Rattle.std.specs.Prelude.{◌≡◌, ◌≢◌, ◌+◌, ◌*◌, ◌<◌, ◌≤◌, true, ◌++◌, length, IfOk, OnOk, OnErr};
 ghost use Rattle.mf_edge.specs.Device.{CountsOne};
-ghost use Rattle.mf_edge.specs.Spill.{SpillState, SameStore, most_parts};
+ghost use Rattle.mf_edge.specs.Spill.{most_parts};
 ghost use Rattle.spill_parts.specs.Parts.{IsHeld, IsReading};
 
 use crate::part::Part;
@@ -49,8 +48,8 @@ fn copy_rest<K: RowKind, P: Spill, L: Ledger>(
     requires held { IsHeld K.kind to.old (P.state spill.old) }
     ensures rows { OnOk result ((P.state spill.old).tells ≡ true → to.new.rows ≡ to.old.rows ++ reader.old.left) }
     ensures held { OnOk result (IsHeld K.kind to.new (P.state spill.new)) }
-    ensures steps { OnOk result (steps.new + K.kind.width * reader.old.loaded ≤ steps.old
-        + K.kind.width * length reader.old.source.rows) }
+    ensures steps { OnOk result
+        (steps.new + K.kind.width * reader.old.loaded ≤ steps.old + K.kind.width * length reader.old.source.rows) }
     ensures same_faults { OnOk result ((P.state spill.new).faults ≡ (P.state spill.old).faults) }
     ensures failed { OnErr result (CountsOne (P.state spill.old).faults (P.state spill.new).faults) }
     ensures counts { (P.state spill.old).faults ≤ (P.state spill.new).faults }

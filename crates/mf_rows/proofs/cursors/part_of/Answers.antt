@@ -9,13 +9,13 @@ split_at-requires c =
 
 pub returns-in-Some-clause-rest : goal.returns-in-Some-clause-rest
 returns-in-Some-clause-rest c =
-    rw c.split_at.ensures.back (first_part c.args.first.now c.args.rest.now c.in-Some.role c.in-Some.points
-    (search rules) c.requires).rest
+    rw c.split_at.ensures.back
+    (first_part c.args.first.now c.args.rest.now c.in-Some.role c.in-Some.points (search rules) c.requires).rest
 
 pub returns-in-Some-clause-some : goal.returns-in-Some-clause-some
 returns-in-Some-clause-some c =
-    rw (c.split_at.ensures.front, c.split_at.ensures.back) (first_part c.args.first.now c.args.rest.now c.in-Some.role
-    c.in-Some.points (search rules) c.requires).all_is
+    rw (c.split_at.ensures.front, c.split_at.ensures.back)
+    (first_part c.args.first.now c.args.rest.now c.in-Some.role c.in-Some.points (search rules) c.requires).all_is
 
 pub returns-in-None-clause-there : goal.returns-in-None-clause-there
 returns-in-None-clause-there c =

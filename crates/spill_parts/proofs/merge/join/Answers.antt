@@ -16,8 +16,8 @@ next-requires-clause-reading g c =
 pub loop-row-init : goal.loop-row-init
 loop-row-init g c =
     let begun = c.in_ok-out.ensures.made in
-    let source : c.next.new.self.source ≡ c.args.nodes.now =
-    c.next.ensures.same_source ∙ c.start-node_reader.ensures.source in
+    let source : c.next.new.self.source ≡ c.args.nodes.now = c.next.ensures.same_source
+    ∙ c.start-node_reader.ensures.source in
     let J : List g.row.N.Denot → List g.row.R.Denot → List g.row.O.Denot =
     joined_rows g.R.Keyed.key_of g.N.Keyed.key_of g.O.JoinOf.join_of in
     record {
@@ -29,8 +29,8 @@ loop-row-init g c =
       second = c.in_ok-node.ensures.reading;
       held = there_same c.next.ensures.same begun.held;
       added = added_read (added_begun begun) c.next.ensures.same;
-      first_apart = λ e. apart_from_begun begun c.requires.refs
-          (sym (ap (λ p. p.part) c.start-ref_reader.ensures.source) ∙ e);
+      first_apart =
+          λ e. apart_from_begun begun c.requires.refs (sym (ap (λ p. p.part) c.start-ref_reader.ensures.source) ∙ e);
       second_apart = λ e. apart_from_begun begun c.requires.nodes (sym (ap (λ p. p.part) source) ∙ e);
       climbs = λ told. subst (Climbs g.R.Keyed.key_of) (sym c.start-ref_reader.ensures.left) (c.requires.climbs told);
       rises = λ told. subst (Rises g.N.Keyed.key_of)
@@ -44,7 +44,8 @@ loop-row-init g c =
       first_source = c.start-ref_reader.ensures.source;
       second_source = source;
       first_within = rw c.start-ref_reader.ensures.none_loaded (omega arith);
-      second_within = subst (λ (p : Part g.row.N.Denot). g.N.RowKind.kind.width * c.next.new.self.loaded
+      second_within =
+          subst (λ (p : Part g.row.N.Denot). g.N.RowKind.kind.width * c.next.new.self.loaded
           ≤ g.N.RowKind.kind.width * length p.rows) source c.in_ok-node.ensures.within;
       steps =
           let none : g.N.RowKind.kind.width * c.start-node_reader.result.loaded ≡ 0 =
@@ -58,10 +59,10 @@ pub loop-row-preserved : goal.loop-row-preserved
 loop-row-preserved g c =
     let I = c.loop-row.invariant in
     let out = c.loop-row.out.part in
-    let first_source : c.next-in-loop-row.new.self.source ≡ c.args.refs.now =
-    c.in_ok-row.ensures.same_source ∙ I.first_source in
-    let second_source : c.pass_below.new.reader.source ≡ c.args.nodes.now =
-    c.in_ok-node-2.ensures.same_source ∙ I.second_source in
+    let first_source : c.next-in-loop-row.new.self.source ≡ c.args.refs.now = c.in_ok-row.ensures.same_source
+    ∙ I.first_source in
+    let second_source : c.pass_below.new.reader.source ≡ c.args.nodes.now = c.in_ok-node-2.ensures.same_source
+    ∙ I.second_source in
     let first_apart : c.next-in-loop-row.new.self.source.part ≢ out =
     λ e. I.first_apart (ap (λ p. p.part) (sym c.in_ok-row.ensures.same_source) ∙ e) in
     let second_apart : c.pass_below.new.reader.source.part ≢ out =
@@ -70,10 +71,11 @@ loop-row-preserved g c =
     let ref_key = g.R.Keyed.key_of in
     let node_key = g.N.Keyed.key_of in
     let ns = rest_of c.loop-row.node c.loop-row.node_reader.left in
-    let given : GivesNext (g.P.Spill.state c.loop-row.spill).tells c.loop-row.ref_reader.left (Some c.in-Some.row)
-    c.next-in-loop-row.new.self.left
-    = subst (λ (o : Option g.row.R.Denot). GivesNext (g.P.Spill.state c.loop-row.spill).tells c.loop-row.ref_reader.left
-    o c.next-in-loop-row.new.self.left) c.in-Some.is c.in_ok-row.ensures.next in
+    let given : GivesNext (g.P.Spill.state c.loop-row.spill).tells c.loop-row.ref_reader.left
+    (Some c.in-Some.row) c.next-in-loop-row.new.self.left
+    = subst (λ (o : Option g.row.R.Denot). GivesNext
+    (g.P.Spill.state c.loop-row.spill).tells c.loop-row.ref_reader.left o c.next-in-loop-row.new.self.left)
+    c.in-Some.is c.in_ok-row.ensures.next in
     let read = same_store I.same c.in_ok-row.ensures.same in
     record {
       same = same_trans before c.in_ok-put_joined.ensures.only.same;
@@ -86,7 +88,8 @@ loop-row-preserved g c =
           c.in_ok-put_joined.ensures.only.same.tells c.in_ok-node-2.ensures.reading;
       held = c.in_ok-put_joined.ensures.out;
       added = added_now c.in_ok-put_joined.ensures.part
-          (added_written (added_read (added_read I.added c.in_ok-row.ensures.same) c.in_ok-node-2.ensures.same)
+          (added_written
+          (added_read (added_read I.added c.in_ok-row.ensures.same) c.in_ok-node-2.ensures.same)
           c.in_ok-put_joined.ensures.only);
       first_apart = λ e. first_apart (e ∙ c.in_ok-put_joined.ensures.part);
       second_apart = λ e. second_apart (e ∙ c.in_ok-put_joined.ensures.part);
@@ -102,17 +105,19 @@ loop-row-preserved g c =
           c.in_ok-node-2.node c.pass_below.new.reader.left c.loop-row.out.rows c.put_joined.new.out.rows
           (joined_rows ref_key node_key g.O.JoinOf.join_of c.args.nodes.now.rows c.args.refs.now.rows)
           (subst (Climbs ref_key) first (I.climbs told)) (I.rises told)
-          (subst (λ (k : ℕ). rest_of c.in_ok-node-2.node c.pass_below.new.reader.left ≡ from_key node_key k ns)
-          c.key.ensures (c.in_ok-node-2.ensures.rest (read.tells ∙ told)))
-          (subst (λ (k : ℕ). is_below node_key k c.in_ok-node-2.node ≡ false) c.key.ensures
-          c.in_ok-node-2.ensures.stops)
+          (subst (λ (k : ℕ). rest_of c.in_ok-node-2.node c.pass_below.new.reader.left
+          ≡ from_key node_key k ns) c.key.ensures (c.in_ok-node-2.ensures.rest (read.tells ∙ told)))
+          (subst (λ (k : ℕ). is_below node_key k c.in_ok-node-2.node
+          ≡ false) c.key.ensures c.in_ok-node-2.ensures.stops)
           c.in_ok-put_joined.ensures.rows
-          (subst (λ (l : List g.row.R.Denot). c.loop-row.out.rows ++ joined_rows ref_key node_key g.O.JoinOf.join_of ns
-          l ≡ joined_rows ref_key node_key g.O.JoinOf.join_of c.args.nodes.now.rows c.args.refs.now.rows) first
+          (subst (λ (l : List g.row.R.Denot). c.loop-row.out.rows
+          ++ joined_rows ref_key node_key g.O.JoinOf.join_of ns l
+          ≡ joined_rows ref_key node_key g.O.JoinOf.join_of c.args.nodes.now.rows c.args.refs.now.rows) first
           (I.rows told));
       first_source = first_source;
       second_source = second_source;
-      first_within = subst (λ (p : Part g.row.R.Denot). g.R.RowKind.kind.width * c.next-in-loop-row.new.self.loaded
+      first_within =
+          subst (λ (p : Part g.row.R.Denot). g.R.RowKind.kind.width * c.next-in-loop-row.new.self.loaded
           ≤ g.R.RowKind.kind.width * length p.rows) first_source c.in_ok-row.ensures.within;
       second_within =
           let sources : c.pass_below.new.reader.source ≡ c.loop-row.node_reader.source =
@@ -128,7 +133,8 @@ loop-row-preserved g c =
 pub returns-clause-rows : goal.returns-clause-rows
 returns-clause-rows g c told =
     let I = c.loop-row.invariant in
-    let given : GivesNext (g.P.Spill.state c.loop-row.spill).tells c.loop-row.ref_reader.left c.in_ok-row.field-0
+    let given : GivesNext
+    (g.P.Spill.state c.loop-row.spill).tells c.loop-row.ref_reader.left c.in_ok-row.field-0
     c.next-in-loop-row.new.self.left = c.in_ok-row.ensures.next in
     ap (λ (p : Part g.row.O.Denot). p.rows) c.finish.ensures
     ∙ rows_none g.R.Keyed.key_of g.N.Keyed.key_of g.O.JoinOf.join_of

@@ -18,14 +18,14 @@ invariant-loop-row g l = record {
   rises : (g.P.Spill.state l.fn.spill).tells ≡ true → Rises g.N.Keyed.key_of (rest_of l.node l.node_reader.left);
   rows : (g.P.Spill.state l.fn.spill).tells ≡ true
       → l.out.rows ++ joined_rows g.R.Keyed.key_of g.N.Keyed.key_of g.O.JoinOf.join_of
-      (rest_of l.node l.node_reader.left) l.ref_reader.left ≡ joined_rows g.R.Keyed.key_of g.N.Keyed.key_of
-      g.O.JoinOf.join_of l.nodes.rows l.refs.rows;
+      (rest_of l.node l.node_reader.left) l.ref_reader.left
+      ≡ joined_rows g.R.Keyed.key_of g.N.Keyed.key_of g.O.JoinOf.join_of l.nodes.rows l.refs.rows;
   first_source : l.ref_reader.source ≡ l.refs;
   second_source : l.node_reader.source ≡ l.nodes;
   first_within : g.R.RowKind.kind.width * l.ref_reader.loaded ≤ g.R.RowKind.kind.width * length l.refs.rows;
   second_within : g.N.RowKind.kind.width * l.node_reader.loaded ≤ g.N.RowKind.kind.width * length l.nodes.rows;
-  steps : l.steps ≡ l.fn.steps + g.R.RowKind.kind.width * l.ref_reader.loaded
-      + g.N.RowKind.kind.width * l.node_reader.loaded;
+  steps : l.steps
+      ≡ l.fn.steps + g.R.RowKind.kind.width * l.ref_reader.loaded + g.N.RowKind.kind.width * l.node_reader.loaded;
 }
 
 abbrev pub decreases-loop-row : goal.decreases-loop-row

@@ -27,9 +27,10 @@ pub returns-clause-reading : goal.returns-clause-reading
 returns-clause-reading g c =
     let source : c.self.inside.source ≡ c.args.self.now.source = search rules in
     let loaded : c.self.inside.loaded ≡ c.args.self.now.loaded = search rules in
-    loaded_reading {kind = g.K.RowKind.kind} (IsOf g.K.RowKind.kind) g.met.K.RowKind.laws.long
-    g.met.K.RowKind.laws.reads_back c.args.self.now _ c.args.page.now c.load.new.self
-    (g.P.Spill.state c.args.spill.now) (g.P.Spill.state c.load.new.spill)
+    loaded_reading {kind =
+    g.K.RowKind.kind}
+    (IsOf g.K.RowKind.kind) g.met.K.RowKind.laws.long g.met.K.RowKind.laws.reads_back c.args.self.now _
+    c.args.page.now c.load.new.self (g.P.Spill.state c.args.spill.now) (g.P.Spill.state c.load.new.spill)
     (rw (← source) c.len.ensures.known) c.requires.reading c.requires.none (within g c)
     (omega (arith, c.load.ensures.same_room, c.rows_to_load-n.ensures.room, c.len-2.ensures.many)) source
     (search rules) (ap (λ n. n + c.rows_to_load-n.result) loaded) c.load.ensures.same

@@ -6,10 +6,11 @@ use Rattle.spill_parts.proofs.reader.Reader.next.Goals as goal
 
 given : (g : _) (c : goal.After-give g)
     → IsReading g.K.RowKind.kind c.give.new.self c.ready.new.page (g.P.Spill.state c.ready.new.spill)
-    × GivesNext (g.P.Spill.state c.ready.new.spill).tells c.ready.new.self.left (Some c.give.result)
-    c.give.new.self.left
+    × GivesNext (g.P.Spill.state c.ready.new.spill).tells c.ready.new.self.left
+    (Some c.give.result) c.give.new.self.left
 given g c =
-    given_reading {kind = g.K.RowKind.kind} c.ready.new.self c.give.new.self c.ready.new.page
+    given_reading {kind =
+    g.K.RowKind.kind} c.ready.new.self c.give.new.self c.ready.new.page
     (g.P.Spill.state c.ready.new.spill) c.give.result c.in_ok-ready.ensures.reading
     (search rules) c.give.ensures.row c.give.ensures.same_source c.give.ensures.left c.give.ensures.loaded
     c.give.ensures.waiting
