@@ -1,13 +1,13 @@
 -- The bytes of the texts of a description, text by text: for weights that are told by counts, and for the room of a
 -- tile.
-use Rattle.std.proofs.Common.{◌≡◌, ℕ, ◌+◌, List, [], ◌∷◌, ◌++◌, length, refl, sym, ap, ◌∙◌, arith, Option, Some, None}
-use Rattle.std.specs.Prelude.{flat_map, sum_by}
+use Rattle.std.proofs.Common.{◌≡◌, ℕ, ◌+◌, List, [], ◌∷◌, ◌++◌, length, refl, ◌∙◌, arith, Option, Some, None}
+use Rattle.std.specs.Prelude.{flat_map}
 use Rattle.std.specs.List.{enumerate_from}
 use Rattle.mf_base.specs.Texts.{Text}
 use Rattle.feature_model.specs.Choice.{Kept}
 use Rattle.feature_model.specs.Descriptions.{Description, TextSlot, name, house, reference, tag, in_slot, kept_text}
 use Rattle.feature_model.specs.Descriptions.{texts_of, texts_length, text_size, kept_size}
-use Rattle.feature_model.proofs.Totals.{total, total-append, total-flat_map, sum-total}
+use Rattle.feature_model.proofs.Totals.{total, total-append, sum-total}
 
 size : TextSlot × Text → ℕ
 size t = length t.1

@@ -10,7 +10,8 @@ ghost use Rattle.feature_model.specs.Samples.{entry, poi_mapping, water};
 /// One word: the key ends before the first `=`, and the zoom level begins after the last `@`.
 #[tactic(auto, unfolding(crate::proofs::Compute::compute))]
 pub fn one_word()
-    ensures read { one_poi (codes "amenity=bench@5") ≡ Ok (poi_mapping (entry (codes "amenity") (codes "bench") 5 ∷ [])) }
+    ensures read { one_poi (codes "amenity=bench@5")
+        ≡ Ok (poi_mapping (entry (codes "amenity") (codes "bench") 5 ∷ [])) }
     ensures last_at { one_poi (codes "a=b=@c@021") ≡ Ok (poi_mapping (entry (codes "a") (codes "b=@c") 21 ∷ [])) }
     ensures entry { map one_poi (codes "" ∷ codes "a" ∷ codes "a@5" ∷ codes "a@5=b" ∷ codes "=b@5" ∷ codes
         "a=@5" ∷ codes "a=b@" ∷ codes "a=b@22" ∷ codes "a=b@-0" ∷ [])
@@ -53,8 +54,10 @@ pub fn entry_rule()
 pub fn many_entries()
     ensures poi { mapping_told (replicate 4097 None) [] ≡ Err (MappingFault.TooMany which.List.Poi) }
     ensures way { mapping_told (None ∷ []) (replicate 4097 None) ≡ Err (MappingFault.TooMany which.List.Way) }
-    ensures both { mapping_told (replicate 4097 None) (replicate 4097 None) ≡ Err (MappingFault.TooMany which.List.Poi) }
-    ensures fits { mapping_told (replicate 4096 None) (replicate 4096 None) ≡ Err (MappingFault.Entry which.List.Poi 0) }
+    ensures both { mapping_told (replicate 4097 None) (replicate 4097 None)
+        ≡ Err (MappingFault.TooMany which.List.Poi) }
+    ensures fits { mapping_told (replicate 4096 None) (replicate 4096 None)
+        ≡ Err (MappingFault.Entry which.List.Poi 0) }
 {}
 
 /// The same key and value a second time in a list, and once in each list.

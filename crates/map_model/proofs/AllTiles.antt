@@ -12,7 +12,6 @@ use Rattle.mf_base.specs.declared.place.Rect.{Rect}
 use Rattle.mf_base.specs.declared.tile.Interval.{Interval}
 use Rattle.mf_base.specs.declared.tile.TilePlace.{TilePlace}
 use Rattle.mf_base.specs.declared.tile.TileRect.{TileRect}
-use Rattle.map_model.specs.Numbers.{greatest}
 use Rattle.map_model.specs.Mercator.{edge_lat, fine_row, row, column}
 use Rattle.map_model.specs.Header.{HeadSettings}
 use Rattle.map_model.specs.MapFile.{all_tiles}

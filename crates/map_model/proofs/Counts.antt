@@ -1,5 +1,5 @@
 -- Weights and counts over all tiles, by features and by contents: for the size of a job, for limits and for the report.
-use Rattle.std.proofs.Common.{◌≡◌, ℕ, zero, suc, ◌+◌, ◌*◌, ◌<◌, ◌≤◌, List, [], ◌∷◌, ◌++◌, map, length, refl, sym, ap}
+use Rattle.std.proofs.Common.{◌≡◌, ℕ, suc, ◌+◌, ◌*◌, ◌≤◌, List, [], ◌∷◌, ◌++◌, map, length, refl, sym, ap}
 use Rattle.std.proofs.Common.{◌∙◌, arith, length-append, true, false, inl, inr}
 use Rattle.std.specs.Prelude.{Bool, cond, ◌&&◌, leb, nat_lt, flat_map, sum_by, count_by, IsTrue}
 use Rattle.std.specs.List.{enumerate_from, AllByRecursion}
@@ -36,15 +36,16 @@ same-list (x ∷ xs) = ap (λ ys. x ∷ ys) (same-list xs)
 weight-total : (features : List Feature) (tile : TilePlace) → tile.interval.min ≤ tile.interval.max
     → tile_weight features tile ≡ total (λ f. cond (is_in_tile tile f) f.weight 0) features
 weight-total features tile range =
-    ap weight_of_tile (sym (sym (same-list (members_by (λ f. f) features tile))
-    ∙ members-shown (λ f. f) (λ f. 0) features tile ∙ ap (λ fs. members fs tile) (same-list features)))
+    ap weight_of_tile
+    (sym (sym (same-list (members_by (λ f. f) features tile)) ∙ members-shown (λ f. f) (λ f. 0) features tile
+    ∙ ap (λ fs. members fs tile) (same-list features)))
     ∙ sum-total (λ (f : Feature). f.weight) (members_by (λ f. f) features tile)
     ∙ members-total (λ f. f) (λ f. 0) (λ (f : Feature). f.weight) features tile range
 
 pub weight-of_features : (features : List Feature) (tile : TilePlace) → tile.interval.min ≤ tile.interval.max
     → tile_weight features tile ≡ sum_by (λ (f : Feature). cond (is_in_tile tile f) f.weight 0) features
-weight-of_features features tile range =
-    weight-total features tile range ∙ sym (sum-total (λ (f : Feature). cond (is_in_tile tile f) f.weight 0) features)
+weight-of_features features tile range = weight-total features tile range
+    ∙ sym (sum-total (λ (f : Feature). cond (is_in_tile tile f) f.weight 0) features)
 
 same-weight : {X : Type 0} (w : ℕ) (xs : List X) → total (λ x. w) xs ≡ w * length xs
 same-weight w [] = omega arith
@@ -52,16 +53,17 @@ same-weight w (x ∷ xs) = let rest = same-weight w xs in omega (arith, rest)
 
 -- what a feature weighs in the tiles of an interval
 feature-spread : (box : Rect) (index : ℕ) (interval : Interval) (f : Feature)
-    → total (λ p. cond (is_in_tile (tile_place index interval p) f) f.weight 0) (tiles_of (tile_rect box interval.base))
-    ≡ spread_weight box interval f
+    → total (λ p. cond (is_in_tile (tile_place index interval p) f) f.weight 0)
+    (tiles_of (tile_rect box interval.base)) ≡ spread_weight box interval f
 unfolding shared_tiles meets
 feature-spread box index interval f = by_test (leb f.zoom interval.max)
   where
     by_test : (b : Bool)
         → total (λ p. cond (b && has_tile (tile_rect (rect_of f) interval.base) p.0 p.1) f.weight 0)
         (tiles_of (tile_rect box interval.base)) ≡ cond b (f.weight * length (shared_tiles box interval f)) 0
-    by_test true = sym (shared-total (λ p. f.weight) (tile_rect box interval.base)
-        (tile_rect (rect_of f) interval.base)) ∙ same-weight f.weight (shared_tiles box interval f)
+    by_test true =
+        sym (shared-total (λ p. f.weight) (tile_rect box interval.base) (tile_rect (rect_of f) interval.base))
+        ∙ same-weight f.weight (shared_tiles box interval f)
     by_test false = total-zero (tiles_of (tile_rect box interval.base))
 
 interval-spread : (box : Rect) (features : List Feature) (at : ℕ × Interval) → IsSound at
@@ -72,8 +74,8 @@ interval-spread box features at sound =
     ∙ total-same (λ p. tile_weight features (tile_place at.0 at.1 p))
     (λ p. total (λ f. cond (is_in_tile (tile_place at.0 at.1 p) f) f.weight 0) features)
     (λ p. weight-total features (tile_place at.0 at.1 p) sound.range) (tiles_of (tile_rect box at.1.base))
-    ∙ total-swap (λ p f. cond (is_in_tile (tile_place at.0 at.1 p) f) f.weight 0) (tiles_of (tile_rect box at.1.base))
-    features
+    ∙ total-swap (λ p f. cond (is_in_tile (tile_place at.0 at.1 p) f) f.weight 0)
+    (tiles_of (tile_rect box at.1.base)) features
     ∙ total-same (λ f. total (λ p. cond (is_in_tile (tile_place at.0 at.1 p) f) f.weight 0)
     (tiles_of (tile_rect box at.1.base))) (spread_weight box at.1) (feature-spread box at.0 at.1) features
     ∙ sym (sum-total (spread_weight box at.1) features)
@@ -92,9 +94,9 @@ weights-spread set box features intervals =
     ∙ total-flat_map (tile_weight features) (λ at. interval_tiles box at.0 at.1) (enumerate_from 0 set.intervals)
     ∙ total-all (λ at. total (tile_weight features) (interval_tiles box at.0 at.1))
     (λ (i : ℕ × Interval). sum_by (spread_weight box i.1) features) (enumerate_from 0 set.intervals)
-    (all-imp IsSound (λ at. total (tile_weight features) (interval_tiles box at.0 at.1)
-    ≡ sum_by (spread_weight box at.1) features) (interval-spread box features) (enumerate_from 0 set.intervals)
-    (intervals-sound set intervals))
+    (all-imp IsSound
+    (λ at. total (tile_weight features) (interval_tiles box at.0 at.1) ≡ sum_by (spread_weight box at.1) features)
+    (interval-spread box features) (enumerate_from 0 set.intervals) (intervals-sound set intervals))
     ∙ sym (sum-total (λ (i : ℕ × Interval). sum_by (spread_weight box i.1) features) (enumerate_from 0 set.intervals))
 
 -- ---- tiles with members
@@ -127,8 +129,8 @@ bytes-of_members tile (f ∷ fs) =
     a : length (vbe_unsigned (length pois) ++ pois) ≡ length (vbe_unsigned (length pois)) + length pois
     a = length-append (vbe_unsigned (length pois)) pois
 
-    b : length (table ++ (vbe_unsigned (length pois) ++ pois)) ≡ length table
-        + length (vbe_unsigned (length pois) ++ pois)
+    b : length (table ++ (vbe_unsigned (length pois) ++ pois))
+        ≡ length table + length (vbe_unsigned (length pois) ++ pois)
     b = length-append table (vbe_unsigned (length pois) ++ pois)
 
     c : length (table ++ (vbe_unsigned (length pois) ++ pois) ++ ways)
@@ -151,7 +153,8 @@ contents-total f set box features =
     (enumerate_from 0 set.intervals))
 
 pub shown-counted : (set : HeadSettings) (box : Rect) (features : List Feature)
-    → shown_tiles set box features ≡ count_by (λ (t : TileContent). nat_lt 0 (length t.bytes))
+    → shown_tiles set box features
+    ≡ count_by (λ (t : TileContent). nat_lt 0 (length t.bytes))
     (flat_map (λ tiles. tiles) (all_contents set box features))
 unfolding shown_tiles content_of
 shown-counted set box features =
@@ -165,8 +168,8 @@ shown-counted set box features =
     (flat_map (λ tiles. tiles) (all_contents set box features)))
 
 pub water-counted : (set : HeadSettings) (box : Rect) (features : List Feature)
-    → water_tiles set box features ≡ count_by (λ (t : TileContent). t.water)
-    (flat_map (λ tiles. tiles) (all_contents set box features))
+    → water_tiles set box features
+    ≡ count_by (λ (t : TileContent). t.water) (flat_map (λ tiles. tiles) (all_contents set box features))
 unfolding water_tiles content_of
 water-counted set box features =
     count-total (λ tile. water tile (members features tile)) (all_tiles set box)

@@ -1,32 +1,29 @@
 -- How many bytes a feature and a tile take: at most 16 for each row that is weighed. For the encoder of a tile, whose
 -- output has room for it.
-use Rattle.std.proofs.Common.{◌≡◌, ℕ, zero, suc, ◌+◌, ◌-◌, ◌*◌, ◌/◌, ◌^◌, ◌<◌, ◌≤◌, List, [], ◌∷◌, ◌++◌, map, length}
-use Rattle.std.proofs.Common.{refl, sym, ap, ◌∙◌, subst, arith, length-append, true, false, Option, Some, None, inl}
-use Rattle.std.proofs.Common.{inr}
-use Rattle.std.specs.Prelude.{ℤ, pos, negsuc, nat_abs, Bool, flat_map, IfSome, IsTrue, cond, sum_by, is_some, leb}
-use Rattle.std.specs.List.{AllByRecursion, list_all}
+use Rattle.std.proofs.Common.{◌+◌, ◌*◌, ◌<◌, ◌≤◌, List, [], ◌∷◌, length}
+use Rattle.std.proofs.Common.{refl, arith, length-append, Option, Some, None}
+use Rattle.std.specs.Prelude.{ℤ, nat_abs, flat_map, IfSome}
+use Rattle.std.specs.List.{AllByRecursion}
 use Rattle.std.specs.Int.{w8, w16, w32, cast_unsigned}
-use Rattle.std.proofs.lemmas.Bool.{and_parts, leb-true, cases_Bool}
 use Rattle.mf_base.specs.declared.place.Place.{Place}
-use Rattle.mf_base.specs.declared.tile.TilePlace.{TilePlace}
 use Rattle.mf_base.specs.Texts.{Text}
-use Rattle.mf_base.specs.Spelling.{vbe_unsigned, vbe_signed, string, big_endian}
+use Rattle.mf_base.specs.Spelling.{vbe_unsigned, vbe_signed, string}
 use Rattle.mf_base.proofs.ByteLaws.{length-big_endian}
 use Rattle.feature_model.specs.Inside.{Ring}
 use Rattle.feature_model.specs.Mapping.{KeptValue}
 use Rattle.feature_model.specs.Choice.{Kept}
-use Rattle.feature_model.specs.Descriptions.{kept_text, texts_length, text_size, kept_size}
-use Rattle.feature_model.specs.Features.{Block, Shape, Feature, description_of}
-use Rattle.feature_model.specs.Proper.{is_ring, is_block, is_shape, ring_count, place_count}
-use Rattle.feature_model.proofs.Totals.{total, total-append, total-flat_map, total-same, sum-total}
+use Rattle.feature_model.specs.Descriptions.{kept_text, text_size, kept_size}
+use Rattle.feature_model.specs.Features.{Feature, description_of}
+use Rattle.feature_model.specs.Proper.{ring_count, place_count}
+use Rattle.feature_model.proofs.Totals.{total, sum-total}
 use Rattle.feature_model.proofs.TextSizes.{texts-by_parts}
-use Rattle.map_model.specs.Rectangles.{blocks_of_shape, places_of, first_place, origin}
-use Rattle.map_model.specs.Layout.{PoiFields, WayFields, optional, sized, value_bytes, tag_bytes, step, step_bytes}
-use Rattle.map_model.specs.Layout.{poi_fields_bytes, block_bytes, way_body_bytes, way_fields_bytes, first_of_blocks}
-use Rattle.map_model.specs.TileBytes.{poi_fields, poi_bytes, way_fields, way_bytes}
+use Rattle.map_model.specs.Rectangles.{places_of, first_place}
+use Rattle.map_model.specs.Layout.{optional, value_bytes, tag_bytes, step}
+use Rattle.map_model.specs.Layout.{poi_fields_bytes}
+use Rattle.map_model.specs.TileBytes.{poi_fields, poi_bytes}
 use Rattle.map_model.specs.TileReading.{IsPlaceOf32Bits}
-use Rattle.map_model.specs.Room.{rows_limit, IsShort, IsKeptShort, IsWritable}
-use Rattle.map_model.proofs.Widths.{length-two, length-five, length-signed, length-text, length-place, length-block}
+use Rattle.map_model.specs.Room.{IsShort, IsKeptShort, IsWritable}
+use Rattle.map_model.proofs.Widths.{length-two, length-signed, length-text, length-place}
 
 -- ---- tags
 

@@ -1,6 +1,6 @@
 -- Offsets of an index, starts of sub-files and the length of the map from running sizes: for the writers of index,
 -- header and file.
-use Rattle.std.proofs.Common.{◌≡◌, ℕ, zero, suc, ◌+◌, ◌*◌, ◌<◌, ◌≤◌, List, [], ◌∷◌, ◌++◌, map, length, take, refl, sym}
+use Rattle.std.proofs.Common.{◌≡◌, ℕ, zero, suc, ◌+◌, ◌*◌, List, [], ◌∷◌, ◌++◌, map, length, take, refl, sym}
 use Rattle.std.proofs.Common.{ap, ◌∙◌, arith, length-append, append_assoc, false}
 use Rattle.std.specs.Prelude.{Bool, flat_map, sum_by, sum, replicate}
 use Rattle.std.specs.List.{enumerate_from}

@@ -1,13 +1,13 @@
 -- The header of an accepted mapping, of settings and of a box has few bytes, and is read again: for the writer of
 -- headers and for the whole map.
-use Rattle.std.proofs.Common.{◌≡◌, ℕ, zero, suc, ◌+◌, ◌*◌, ◌/◌, ◌%◌, ◌^◌, ◌<◌, ◌≤◌, List, [], ◌∷◌, ◌++◌, map, length}
+use Rattle.std.proofs.Common.{◌≡◌, ℕ, suc, ◌+◌, ◌*◌, ◌/◌, ◌^◌, ◌<◌, ◌≤◌, List, [], ◌∷◌, ◌++◌, map, length}
 use Rattle.std.proofs.Common.{refl, sym, ap, ◌∙◌, subst, arith, length-append, true, false, Option, Some, None, inl}
 use Rattle.std.proofs.Common.{inr}
-use Rattle.std.specs.Prelude.{Bool, ℤ, not, ◌&&◌, ◌||◌, ◌==◌, leb, IsTrue, IfSome, zip, drop, flat_map, sum, codes}
-use Rattle.std.specs.Prelude.{bytes_eq, pos, negsuc, int_le}
+use Rattle.std.specs.Prelude.{ℤ, not, ◌&&◌, ◌||◌, ◌==◌, leb, IsTrue, IfSome, zip, drop, flat_map, sum, codes}
+use Rattle.std.specs.Prelude.{bytes_eq, pos, negsuc}
 use Rattle.std.specs.List.{AllByRecursion, list_all}
 use Rattle.std.specs.Str.{is_utf8}
-use Rattle.std.proofs.lemmas.Bool.{cases_Bool, cases_lt, and_parts, leb-true, le-leb, not-true}
+use Rattle.std.proofs.lemmas.Bool.{cases_Bool, cases_lt, and_parts, leb-true, le-leb}
 use Rattle.std.proofs.lemmas.List.{length-map}
 use Rattle.std.proofs.lemmas.List.Sums.{sum_by-cons}
 use Rattle.std.proofs.lemmas.Slice.Eq.{bytes_eq-Decides}
@@ -27,11 +27,11 @@ use Rattle.feature_model.proofs.EntryLaws.{entry_rule-is}
 use Rattle.feature_model.proofs.ListLemmas.{all-map, all-weaker}
 use Rattle.map_model.specs.Layout.{optional}
 use Rattle.map_model.specs.Intervals.{is_zoom_range, are_intervals}
-use Rattle.map_model.specs.TagLists.{TagLists, entry_text, tag_lists, tag_value}
+use Rattle.map_model.specs.TagLists.{entry_text, tag_lists}
 use Rattle.map_model.specs.TileReading.{IsText, IsPlaceOf32Bits}
-use Rattle.map_model.specs.Header.{HeadSettings, IsHeadSettings, IsShortText, SubFile, be_signed, tag_list_bytes}
-use Rattle.map_model.specs.Header.{middle_bytes, interval_bytes, header_size, header_bytes, header_fields_bytes}
-use Rattle.map_model.specs.Header.{written_header, sub_files, file_size}
+use Rattle.map_model.specs.Header.{HeadSettings, IsHeadSettings, IsShortText, SubFile, be_signed}
+use Rattle.map_model.specs.Header.{middle_bytes, header_size, header_bytes, header_fields_bytes}
+use Rattle.map_model.specs.Header.{written_header, sub_files}
 use Rattle.map_model.specs.HeaderReading.{IsTagName, AreTagNames, FitsInterval, is_interval, IsHeader, ReadsHeader}
 use Rattle.map_model.specs.HeaderReading.{shown_header}
 use Rattle.map_model.proofs.Compute.{compute}
@@ -63,7 +63,8 @@ equals-utf8 : is_utf8 (61 ∷ []) ≡ true
 unfolding compute
 equals-utf8 = refl
 
-entry-tag : (list : which.List) (e : Entry) → IsEntry list e → IsTagName (entry_text e) × (length (entry_text e) ≤ 511)
+pub entry-tag : (list : which.List) (e : Entry) → IsEntry list e
+    → IsTagName (entry_text e) × (length (entry_text e) ≤ 511)
 entry-tag list e is =
     let rule = entry_rule-is list e is.entry_rule in
     let key = rule.key in
@@ -237,7 +238,8 @@ subs-lie total end head [] sizes low high same ranges = tt
 subs-lie total end head (i ∷ intervals) [] low high same ranges = absurd (omega (arith, same))
 subs-lie total end head (i ∷ intervals) (size ∷ sizes) low high same ranges =
     let all = sum_by-cons (λ (n : ℕ). n) size sizes in
-    subst (λ subs. AllByRecursion (Lies total end) (zip (i ∷ intervals) subs)) (sym (sub_files-running head size sizes)) (
+    subst (λ subs. AllByRecursion (Lies total end) (zip (i ∷ intervals) subs))
+    (sym (sub_files-running head size sizes)) (
       record { range = ranges.0; behind = low; within = omega (arith, high, all) },
       subs-lie total end (head + size) intervals sizes (omega (arith, low)) (omega (arith, high, all))
           (omega (arith, same)) ranges.1,

@@ -1,8 +1,7 @@
 -- Rows fall and columns rise with the place, and both stay below 2^z: for rectangles of tiles and for the corners of a
 -- box.
 use Rattle.std.proofs.Common.{◌≡◌, ℕ, zero, suc, ◌+◌, ◌-◌, ◌*◌, ◌/◌, ◌^◌, ◌<◌, ◌≤◌, refl, sym, arith, inl, inr, true}
-use Rattle.std.proofs.Common.{false}
-use Rattle.std.specs.Prelude.{ℤ, pos, negsuc, Bool, int_le, ◌+ℤ◌, min, ◌&&◌, IsTrue}
+use Rattle.std.specs.Prelude.{ℤ, pos, negsuc, Bool, int_le, ◌+ℤ◌, ◌&&◌, IsTrue}
 use Rattle.std.proofs.lemmas.Bool.{cases_Bool, cases_lt, le-leb, leb-true, lt-ltb, le-ltb, and_parts}
 use Rattle.std.proofs.lemmas.Nat.{pow-add, pow_pos}
 use Rattle.std.proofs.Math.Nat.{le_trans, mul-le-mul_right, div-lt_iff_lt-mul, lt-mul-div-succ}

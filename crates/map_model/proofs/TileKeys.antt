@@ -1,6 +1,6 @@
 -- The keys that are put, in ascending order, are tile after tile those of the members: for the rows of a layout and for
 -- loops over its tiles.
-use Rattle.std.proofs.Common.{◌≡◌, ◌⊎◌, ℕ, ◌+◌, ◌<◌, ◌≤◌, List, [], ◌∷◌, ◌++◌, map, length, refl, sym, ap, ◌∙◌, subst}
+use Rattle.std.proofs.Common.{◌≡◌, ◌⊎◌, ℕ, ◌≤◌, List, [], ◌∷◌, map, length, refl, sym, ap, ◌∙◌}
 use Rattle.std.proofs.Common.{arith, true, false, inl, inr}
 use Rattle.std.specs.Prelude.{Bool, cond, ◌&&◌, ◌==◌, leb, flat_map, IsTrue, sum_by, AllPairs}
 use Rattle.std.specs.List.{enumerate_from, AllByRecursion}
@@ -16,14 +16,13 @@ use Rattle.map_model.specs.MapFile.{all_tiles}
 use Rattle.map_model.specs.Rectangles.{rect_of}
 use Rattle.map_model.specs.TileRects.{has_tile, tile_rect, tiles_of, meets}
 use Rattle.map_model.specs.Intervals.{tile_place, interval_tiles, are_intervals}
-use Rattle.map_model.specs.NumberedMembers.{KeyBelow, key_numbers, tile_numbers, IsKeyBelow, TileBelow, is_in_tile}
+use Rattle.map_model.specs.NumberedMembers.{KeyBelow, key_numbers, IsKeyBelow, TileBelow, is_in_tile}
 use Rattle.map_model.specs.NumberedMembers.{numbered_members, key_in, tile_keys, keys_of_tiles, shared_tiles}
 use Rattle.map_model.specs.NumberedMembers.{interval_keys, put_keys, all_keys}
 use Rattle.feature_model.proofs.Totals.{total, total-map, total-flat_map, total-same, total-zero, total-swap, sum-total}
-use Rattle.feature_model.proofs.Totals.{length-total}
 use Rattle.feature_model.proofs.Rising.{all-map, all-from, all-imp, rises-map, rises-flat_map, rises-imp}
 use Rattle.feature_model.proofs.Rising.{rises-enumerate}
-use Rattle.map_model.proofs.NumberedMembers.{MemberBelow, NumberBelow, members-total, members-rise}
+use Rattle.map_model.proofs.NumberedMembers.{MemberBelow, members-total, members-rise}
 use Rattle.map_model.proofs.AllTiles.{IsSound, shared-total, tiles-rise, intervals-sound}
 
 -- ---- the keys rise

@@ -1,15 +1,15 @@
 -- Features that stand in the order of a tile are in that order: for the encoder of a tile, whose members stand so.
-use Rattle.std.proofs.Common.{◌≡◌, ◌⊎◌, ℕ, zero, suc, ◌+◌, ◌-◌, ◌<◌, ◌≤◌, List, [], ◌∷◌, ◌++◌, refl, sym, ap, ◌∙◌}
+use Rattle.std.proofs.Common.{◌≡◌, ℕ, zero, suc, ◌+◌, ◌-◌, ◌<◌, ◌≤◌, List, [], ◌∷◌, ◌++◌, refl, sym, ap, ◌∙◌}
 use Rattle.std.proofs.Common.{arith, inl, inr, true, false}
-use Rattle.std.specs.Prelude.{Bool, cond, not, filter, flat_map, ◌==◌, AllPairs}
+use Rattle.std.specs.Prelude.{filter, flat_map, ◌==◌}
 use Rattle.std.specs.List.{range_with_len, AllByRecursion}
 use Rattle.std.proofs.lemmas.Bool.{cases_Bool, cases_lt, eq-eqb, ne_eqb, not-true}
 use Rattle.mf_base.proofs.Pairs.{EachPair, each_pair}
 use Rattle.mf_base.specs.declared.tile.Interval.{Interval}
 use Rattle.feature_model.specs.Features.{Feature}
 use Rattle.feature_model.proofs.Rising.{all-imp, all-filter, all-passes, rises-filter, rises-imp}
-use Rattle.map_model.specs.Intervals.{raised_zoom, zooms}
-use Rattle.map_model.specs.Members.{is_poi, is_way, class_of, of_zoom, by_zoom, in_tile_order, StandsBefore}
+use Rattle.map_model.specs.Intervals.{raised_zoom}
+use Rattle.map_model.specs.Members.{is_poi, is_way, class_of, by_zoom, in_tile_order, StandsBefore}
 use Rattle.map_model.specs.Members.{StandInOrder}
 
 -- ---- lists that go by a key

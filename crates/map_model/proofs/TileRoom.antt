@@ -1,20 +1,18 @@
 -- How many bytes a tile takes: at most 16 for each row that its members weigh, and 256. For the encoder of a tile and
 -- for layouts.
-use Rattle.std.proofs.Common.{◌≡◌, ℕ, zero, suc, ◌+◌, ◌-◌, ◌*◌, ◌^◌, ◌<◌, ◌≤◌, List, [], ◌∷◌, ◌++◌, map, length, refl}
-use Rattle.std.proofs.Common.{sym, ap, ◌∙◌, arith, length-append, true, false}
-use Rattle.std.specs.Prelude.{Bool, not, cond, flat_map, filter, count_by, sum_by, ◌==◌}
+use Rattle.std.proofs.Common.{◌≡◌, ℕ, zero, suc, ◌+◌, ◌-◌, ◌*◌, ◌^◌, ◌<◌, ◌≤◌, List, [], ◌∷◌, ◌++◌, length, refl}
+use Rattle.std.proofs.Common.{ap, arith, length-append, true, false}
+use Rattle.std.specs.Prelude.{Bool, not, cond, flat_map, filter, count_by, ◌==◌}
 use Rattle.std.specs.List.{range_with_len, AllByRecursion}
-use Rattle.mf_base.specs.declared.place.Place.{Place}
 use Rattle.mf_base.specs.declared.tile.TilePlace.{TilePlace}
 use Rattle.mf_base.specs.Spelling.{vbe_unsigned}
 use Rattle.feature_model.specs.Features.{Feature}
-use Rattle.feature_model.proofs.Totals.{total, total-filter, total-add, total-same, count-total, sum-total}
+use Rattle.feature_model.proofs.Totals.{total, count-total, sum-total}
 use Rattle.map_model.specs.Intervals.{raised_zoom, zooms}
 use Rattle.map_model.specs.Members.{is_poi, is_way, in_tile_order, weight_of_tile}
 use Rattle.map_model.specs.Bitmap.{sub_tile_bits}
 use Rattle.map_model.specs.Layout.{sized}
 use Rattle.map_model.specs.TileBytes.{poi_bytes, way_bytes, tile_corner, tile_bytes}
-use Rattle.map_model.specs.TileReading.{IsPlaceOf32Bits}
 use Rattle.map_model.specs.Room.{rows_limit, IsWritable}
 use Rattle.map_model.proofs.Widths.{length-four, length-five}
 use Rattle.map_model.proofs.FeatureRoom.{poi-room}
@@ -22,7 +20,7 @@ use Rattle.map_model.proofs.WayRoom.{way-room}
 use Rattle.map_model.proofs.CornerLemmas.{tile_corner-in_range}
 use Rattle.map_model.proofs.LevelLemmas.{tile_bytes-flat}
 
-weights : List Feature → ℕ
+unfoldable pub weights : List Feature → ℕ
 weights fs = total (λ (f : Feature). f.weight) fs
 
 -- what is written of some features, each within its room
@@ -65,7 +63,7 @@ count-le p (f ∷ fs) = by_test (p f) (count-le p fs)
     by_test true rest = omega (arith, rest)
     by_test false rest = omega (arith, rest)
 
-filter-le : (p : Feature → Bool) (fs : List Feature) → length (filter p fs) ≤ length fs
+pub filter-le : (p : Feature → Bool) (fs : List Feature) → length (filter p fs) ≤ length fs
 filter-le p [] = omega arith
 filter-le p (f ∷ fs) = by_test (p f) (filter-le p fs)
   where
@@ -75,7 +73,7 @@ filter-le p (f ∷ fs) = by_test (p f) (filter-le p fs)
     by_test false rest = omega (arith, rest)
 
 -- each feature weighs 10 at least
-few-features : (fs : List Feature) → AllByRecursion IsWritable fs → 10 * length fs ≤ weights fs
+pub few-features : (fs : List Feature) → AllByRecursion IsWritable fs → 10 * length fs ≤ weights fs
 unfolding weights
 few-features [] all = omega arith
 few-features (f ∷ fs) all = let here = all.0.weight in let rest = few-features fs all.1 in omega (arith, here, rest)

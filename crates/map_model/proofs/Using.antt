@@ -8,7 +8,7 @@ use Rattle.std.proofs.lemmas.List.{take_at, drop_at}
 use Rattle.mf_base.specs.declared.tile.TilePlace.{TilePlace}
 use Rattle.mf_base.proofs.Pairs.{each_pair}
 use Rattle.feature_model.specs.Features.{Feature}
-use Rattle.feature_model.proofs.Totals.{total, sum-total}
+use Rattle.feature_model.proofs.Totals.{sum-total}
 use Rattle.feature_model.proofs.Rising.{all-flat_map, all-imp}
 use Rattle.map_model.specs.declared.tile_key.TileKey.{TileKey}
 use Rattle.map_model.specs.SubFile.{entry_bytes, entries_from}
@@ -166,8 +166,8 @@ keys-taken features tile later keys n e up same h past =
     (λ u below. all-imp (IsOfTile u) (λ k. is_key_of tile k ≡ false) (λ k is. of-another tile u k below is)
     (tile_keys features u) (tile-of features u)) later (each_pair TileBelow (tile ∷ later) up).0) in
     let here = keys-front tile (tile_keys features tile) rest n e front behind
-    (subst (λ ks. KeysSeen tile ks n) whole h) (subst (λ ks. n < length ks
-    → is_key_of tile (slice_index_or ks n e) ≡ false) whole past) in (
+    (subst (λ ks. KeysSeen tile ks n) whole h)
+    (subst (λ ks. n < length ks → is_key_of tile (slice_index_or ks n e) ≡ false) whole past) in (
       ap (take n) whole ∙ take_at (tile_keys features tile) rest n (sym here),
       ap (drop n) whole ∙ drop_at (tile_keys features tile) rest n (sym here),
     )

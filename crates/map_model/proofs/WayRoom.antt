@@ -1,34 +1,32 @@
 -- How many bytes a way takes: at most 16 for each row that is weighed. For the encoder of a tile, whose output has room
 -- for it.
-use Rattle.std.proofs.Common.{◌≡◌, ℕ, zero, suc, ◌+◌, ◌-◌, ◌*◌, ◌/◌, ◌^◌, ◌<◌, ◌≤◌, List, [], ◌∷◌, ◌++◌, map, length}
-use Rattle.std.proofs.Common.{refl, sym, ap, ◌∙◌, subst, arith, length-append, true, false, Option, Some, None, inl}
-use Rattle.std.proofs.Common.{inr}
-use Rattle.std.specs.Prelude.{ℤ, pos, negsuc, nat_abs, ◌+ℤ◌, Bool, flat_map, IfSome, IsTrue, cond, fold, sum_by, ◌&&◌}
+use Rattle.std.proofs.Common.{◌≡◌, ℕ, suc, ◌+◌, ◌*◌, ◌^◌, ◌<◌, ◌≤◌, List, [], ◌∷◌, ◌++◌, length}
+use Rattle.std.proofs.Common.{refl, ◌∙◌, arith, length-append, true, false, Option, Some, None}
+use Rattle.std.specs.Prelude.{ℤ, pos, negsuc, nat_abs, ◌+ℤ◌, Bool, flat_map, IfSome, cond, fold, sum_by, ◌&&◌}
 use Rattle.std.specs.Prelude.{int_lt, nat_lt}
 use Rattle.std.specs.List.{AllByRecursion, list_all}
 use Rattle.std.specs.Int.{int_min, int_max}
-use Rattle.std.proofs.lemmas.Bool.{and_parts, leb-true, cases_Bool}
+use Rattle.std.proofs.lemmas.Bool.{and_parts}
 use Rattle.mf_base.specs.declared.place.Place.{Place}
-use Rattle.mf_base.specs.declared.place.Rect.{Rect}
-use Rattle.mf_base.specs.Spelling.{vbe_unsigned, vbe_signed, string, big_endian}
+use Rattle.mf_base.specs.Spelling.{vbe_unsigned}
 use Rattle.mf_base.proofs.ByteLaws.{length-big_endian}
 use Rattle.feature_model.specs.Inside.{Ring}
 use Rattle.feature_model.specs.Descriptions.{text_size, kept_size}
 use Rattle.feature_model.specs.Features.{Block, Shape, Feature}
-use Rattle.feature_model.specs.Proper.{is_ring, is_block, is_shape, ring_count, place_count}
-use Rattle.feature_model.proofs.Totals.{total, total-append, total-same, sum-total}
+use Rattle.feature_model.specs.Proper.{is_block, is_shape, ring_count, place_count}
+use Rattle.feature_model.proofs.Totals.{total, total-same, sum-total}
 use Rattle.map_model.specs.Numbers.{floor_div}
-use Rattle.map_model.specs.Rectangles.{blocks_of_shape, rings_of, places_of, places_of_shape, first_place, origin}
+use Rattle.map_model.specs.Rectangles.{blocks_of_shape, rings_of, places_of, places_of_shape, first_place}
 use Rattle.map_model.specs.Rectangles.{rect_of_places, rect_of}
 use Rattle.map_model.specs.Labels.{first_ring_is_closed, middle, label_place}
-use Rattle.map_model.specs.Layout.{WayFields, optional, sized, tag_bytes, step, step_bytes, block_bytes, way_body_bytes}
+use Rattle.map_model.specs.Layout.{optional, sized, step, step_bytes, block_bytes, way_body_bytes}
 use Rattle.map_model.specs.Layout.{way_fields_bytes, first_of_blocks}
 use Rattle.map_model.specs.TileBytes.{is_double, way_fields, way_bytes}
 use Rattle.map_model.specs.TileReading.{IsPlaceOf32Bits}
-use Rattle.map_model.specs.Room.{rows_limit, IsWritable}
-use Rattle.map_model.proofs.Widths.{IsNear, difference, near-32, near-step, near-places, length-five, length-step}
+use Rattle.map_model.specs.Room.{IsWritable}
+use Rattle.map_model.proofs.Widths.{IsNear, difference, near-step, near-places, length-five, length-step}
 use Rattle.map_model.proofs.Widths.{length-block}
-use Rattle.map_model.proofs.FeatureRoom.{length-tags, length-optional, weight-room, first-32}
+use Rattle.map_model.proofs.FeatureRoom.{length-tags, length-optional, weight-room}
 
 -- ---- the rectangle of places, and its middle
 
@@ -68,7 +66,7 @@ first-near m (p ∷ ps) all = all.0
 half-of-both : (m : ℕ) (a b : ℤ) → nat_abs a ≤ m → nat_abs b ≤ m → nat_abs (floor_div (a +ℤ b) 2) ≤ m + m
 half-of-both m a b ha hb = let half = half-le (a +ℤ b) in let sum = sum-le a b in omega (arith, half, sum, ha, hb)
 
-middle-near : (m : ℕ) (ps : Ring) → AllByRecursion (IsNear m) ps → IsNear (m + m) (middle (rect_of_places ps))
+pub middle-near : (m : ℕ) (ps : Ring) → AllByRecursion (IsNear m) ps → IsNear (m + m) (middle (rect_of_places ps))
 unfolding rect_of_places
 middle-near m ps all =
     let first = first-near m ps all in
@@ -115,7 +113,7 @@ label-near f all = by_test (f.label && first_ring_is_closed (rings_of f))
 abbrev AreRings : Block → Type 0
 AreRings rings = AllByRecursion (λ ring. AllByRecursion IsPlaceOf32Bits ring × (length ring < 2 ^ 35)) rings
 
-all-parts : {X : Type 0} (P : X → Type 0) (xs ys : List X) → AllByRecursion P (xs ++ ys)
+pub all-parts : {X : Type 0} (P : X → Type 0) (xs ys : List X) → AllByRecursion P (xs ++ ys)
     → AllByRecursion P xs × AllByRecursion P ys
 all-parts P [] ys all = (tt, all)
 all-parts P (x ∷ xs) ys all = let rest = all-parts P xs ys all.1 in ((all.0, rest.0), rest.1)
@@ -149,10 +147,10 @@ length-blocks corner double (block ∷ found) at are all rings places =
     omega (arith, here, rest, whole)
 
 -- the rings and places of a shape as totals
-count-rings : (found : List Block) → sum_by length found ≡ total length found
+pub count-rings : (found : List Block) → sum_by length found ≡ total length found
 count-rings found = sum-total length found
 
-count-places : (found : List Block)
+pub count-places : (found : List Block)
     → sum_by (λ (block : Block). sum_by length block) found ≡ total (λ (rings : Block). total length rings) found
 count-places found = sum-total (λ (block : Block). sum_by length block) found
     ∙ total-same (λ (block : Block). sum_by length block) (λ (rings : Block). total length rings)
@@ -176,7 +174,7 @@ shape-length corner double (Shape.blocks found) at is all rings places =
     omega (arith, each, r, p)
 
 -- a shape has no more blocks than rings
-few-blocks : (found : List Block) → list_all is_block found ≡ true → length found ≤ total length found
+pub few-blocks : (found : List Block) → list_all is_block found ≡ true → length found ≤ total length found
 few-blocks [] is = omega arith
 few-blocks (block ∷ found) is =
     let both = and_parts (is_block block) (list_all is_block found) is in

@@ -1,7 +1,7 @@
 -- How many bytes numbers, texts, places and rings take: for the encoder of a tile, which has room for them.
-use Rattle.std.proofs.Common.{◌≡◌, ℕ, zero, suc, ◌+◌, ◌-◌, ◌*◌, ◌/◌, ◌^◌, ◌<◌, ◌≤◌, List, [], ◌∷◌, ◌++◌, map, length}
-use Rattle.std.proofs.Common.{refl, sym, ap, ◌∙◌, arith, length-append, true, false, Option, Some, None, inl, inr}
-use Rattle.std.specs.Prelude.{ℤ, pos, negsuc, nat_abs, ◌-ℤ◌, Bool, flat_map, zip, IfSome, leb, ◌&&◌, cond}
+use Rattle.std.proofs.Common.{◌≡◌, ℕ, zero, suc, ◌+◌, ◌*◌, ◌^◌, ◌<◌, ◌≤◌, List, [], ◌∷◌, length}
+use Rattle.std.proofs.Common.{refl, ap, ◌∙◌, arith, length-append, true, false, inl, inr}
+use Rattle.std.specs.Prelude.{ℤ, pos, negsuc, nat_abs, ◌-ℤ◌, Bool, flat_map, leb}
 use Rattle.std.specs.List.{AllByRecursion}
 use Rattle.std.proofs.lemmas.Bool.{cases_lt, lt-ltb, le-ltb, leb-true, and_parts}
 use Rattle.mf_base.specs.declared.place.Place.{Place}
@@ -12,7 +12,7 @@ use Rattle.feature_model.specs.Inside.{Ring}
 use Rattle.feature_model.specs.Features.{Block}
 use Rattle.feature_model.proofs.Totals.{total}
 use Rattle.map_model.specs.Rectangles.{origin}
-use Rattle.map_model.specs.Layout.{optional, step, step_bytes, steps_from, doubled, ring_steps, coordinate_bytes}
+use Rattle.map_model.specs.Layout.{step, step_bytes, steps_from, doubled, ring_steps, coordinate_bytes}
 use Rattle.map_model.specs.Layout.{ring_bytes, block_bytes}
 use Rattle.map_model.specs.TileReading.{IsPlaceOf32Bits}
 

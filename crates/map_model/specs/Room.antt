@@ -1,12 +1,13 @@
 -- What may be written of a feature, so that it takes at most 16 bytes for each row that it weighs: this project's
 -- profile.
-use Rattle.std.specs.Prelude.{ℕ, ◌+◌, ◌/◌, ◌≤◌, ◌<◌, ◌^◌, nat_abs, List, length, Option, IfSome, IsTrue}
+use Rattle.std.specs.Prelude.{ℕ, ◌+◌, ◌/◌, ◌≤◌, ◌<◌, nat_abs, length, IfSome, IsTrue}
 use Rattle.std.specs.List.{AllByRecursion}
 use Rattle.mf_base.specs.Texts.{Text}
+use Rattle.feature_model.specs.Mapping.{Mapping}
 use Rattle.feature_model.specs.Choice.{Kept}
-use Rattle.feature_model.specs.Descriptions.{kept_text, texts_length}
+use Rattle.feature_model.specs.Descriptions.{entries_for, kept_text, texts_length}
 use Rattle.feature_model.specs.Features.{Feature, description_of}
-use Rattle.feature_model.specs.Proper.{is_shape, ring_count, place_count}
+use Rattle.feature_model.specs.Proper.{is_shape, ring_count, place_count, IsProper, IsOfInput}
 use Rattle.map_model.specs.Rectangles.{places_of}
 use Rattle.map_model.specs.TileReading.{IsPlaceOf32Bits}
 
@@ -35,4 +36,10 @@ pub record IsWritable (f : Feature) : Type 0 where
   pub shape : IsTrue (is_shape f.shape)
   pub places : AllByRecursion IsPlaceOf32Bits (places_of f)
   pub weight : 10 + ring_count f.shape + place_count f.shape + (texts_length (description_of f) + 15) / 16 ≤ f.weight
+  pub light : f.weight ≤ rows_limit
+
+-- A feature of an accepted input under a mapping that weighs at most as many rows as a desk holds.
+pub record IsWritten (mapping : Mapping) (f : Feature) : Type 0 where
+  pub proper : IsProper (entries_for mapping f.kind) f
+  pub input : IsOfInput f
   pub light : f.weight ≤ rows_limit

@@ -101,7 +101,8 @@ pub fn listings()
     ensures no_tile { show bench_map 0 1 0 ≡ Err ShowFault.no_tile }
     ensures before_the_end_of_the_index { show (set bench_map 114 0x04) 0 0 0 ≡ Err (ShowFault.index 110) }
     ensures past_the_sub_file { show (set bench_map 114 0x23) 0 0 0 ≡ Err (ShowFault.index 110) }
-    ensures wrong_offset { show (set bench_map 114 0x06) 0 0 0 ≡ Err (ShowFault.tile (tile_fault_at 16 TileKind.Offset)) }
+    ensures wrong_offset { show (set bench_map 114 0x06) 0 0 0
+        ≡ Err (ShowFault.tile (tile_fault_at 16 TileKind.Offset)) }
     ensures bad_way_offset { show (set bench_map 131 0x0D) 0 0 0
         ≡ Err (ShowFault.tile (tile_fault_at 16 TileKind.Offset)) }
     ensures map_cut_short { show (take 143 bench_map) 0 0 0
