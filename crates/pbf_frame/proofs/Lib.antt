@@ -22,3 +22,4 @@ pub mod BlobFront
 pub mod TakenSteps
 pub mod NextBlob
 pub mod NextExact
+pub mod BlobPass

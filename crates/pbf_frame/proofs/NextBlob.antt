@@ -5,6 +5,7 @@ use Rattle.std.specs.Prelude.{slice_range}
 use Rattle.std.proofs.lemmas.List.Elements.{filter-append}
 use Rattle.mf_edge.specs.Device.{SourceState, IsAtEnd}
 use Rattle.mf_edge.specs.Stream.{StreamState}
+use Rattle.osm_model.proofs.FrameListLaws.{frames_join}
 use Rattle.osm_model.specs.declared.faults.FrameFault.{FrameFault}
 use Rattle.osm_model.specs.declared.limits.TheConstants.{OFFSET_LIMIT}
 use Rattle.osm_model.specs.Frames.{unread, Frame, AreFrames, SpellsFrame, is_known, PassesOver, LeadsTo}
@@ -19,23 +20,6 @@ use Rattle.pbf_frame.specs.BlobReading.{FailsAt, SpellsStep}
 use Rattle.pbf_frame.proofs.TakenSteps.{taken-then}
 
 -- ---- blobs one after another
-
-frames_join : (at : ℕ) (fs gs : List Frame) (x y : List ℕ) → AreFrames at x fs → AreFrames (at + length x) y gs
-    → AreFrames at (x ++ y) (fs ++ gs)
-frames_join at [] gs x y e h =
-    subst (λ b. AreFrames at (b ++ y) gs) (sym e) (subst (λ n. AreFrames n y gs) (omega (arith, ap length e)) h)
-frames_join at (f ∷ fs) gs x y (front, rest, placed, near, spelled, more, whole) h =
-    let count : at + length x ≡ at + length front + length rest =
-    omega (arith, ap length whole, length-append front rest) in (
-      front,
-      rest ++ y,
-      placed,
-      near,
-      spelled,
-      frames_join (at + length front) fs gs rest y more
-          (subst (λ n. AreFrames n y gs) count h),
-      ap (λ b. b ++ y) whole ∙ append_assoc front rest y,
-    )
 
 one_frame : (f : Frame) (at : ℕ) (y : List ℕ) → f.at ≡ at → at < OFFSET_LIMIT → SpellsFrame f.content y
     → AreFrames at y (f ∷ [])

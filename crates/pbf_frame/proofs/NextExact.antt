@@ -8,6 +8,7 @@ use Rattle.mf_edge.specs.Device.{SourceState, Takes, HasNone}
 use Rattle.mf_edge.specs.Stream.{StreamState}
 use Rattle.osm_model.specs.Reading.{Reading, stops_at, then_reads}
 use Rattle.osm_model.specs.declared.faults.FrameFault.{FrameFault}
+use Rattle.osm_model.specs.Frames.{known_at}
 use Rattle.osm_model.specs.Frames.{Frame, FrameFaultAt, AreFrames, is_known, known_frames, PassesOver, frames_at}
 use Rattle.osm_model.specs.Frames.{next_known}
 use Rattle.osm_model.proofs.FrameListLaws.{frames-nil, frames-stop, frames-append}
@@ -15,7 +16,7 @@ use Rattle.osm_model.proofs.NextLaws.{leads, passes}
 use Rattle.pbf_frame.specs.declared.frame_fault.NextFault.{NextFault}
 use Rattle.pbf_frame.specs.declared.frame_fault.NextFault.TheVariants as next_fault
 use Rattle.pbf_frame.specs.declared.frame.Frame as given
-use Rattle.pbf_frame.specs.FrameReading.{BeginsNoBlob, FailsBehind, TakesBlobs, IsNext, LeavesBlobs, known_at}
+use Rattle.pbf_frame.specs.FrameReading.{BeginsNoBlob, FailsBehind, TakesBlobs, IsNext, LeavesBlobs}
 use Rattle.pbf_frame.specs.FrameReading.{frame_shown}
 
 -- ---- the bytes that were taken and those that are left

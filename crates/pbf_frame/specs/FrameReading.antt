@@ -8,7 +8,7 @@ use Rattle.osm_model.specs.declared.limits.TheConstants.{BLOB_LIMIT, FRAME_LIMIT
 use Rattle.osm_model.specs.Reading.{Reading, all_read, stops_at, then_reads}
 use Rattle.osm_model.specs.Frames as model
 use Rattle.osm_model.specs.Frames.{Content, header, primitive, unread, SpellsFrame, FrameFaultAt, raw_bytes}
-use Rattle.osm_model.specs.Frames.{frame_front, frames_at, known_frames, PassesOver, LeadsTo}
+use Rattle.osm_model.specs.Frames.{frame_front, known_at, PassesOver, LeadsTo}
 use Rattle.pbf_frame.specs.declared.frame_fault.NextFault.{NextFault}
 use Rattle.pbf_frame.specs.declared.frame_fault.NextFault.TheVariants as next_fault
 use Rattle.pbf_frame.specs.declared.frame.BlobKind.{BlobKind}
@@ -79,10 +79,6 @@ abbrev pub IsNext : List ℕ → Result (Option Frame) NextFault → Result (Opt
 IsNext block (Ok found) next = next ≡ Ok (option_map (frame_shown block) found)
 IsNext block (Err (next_fault.Frame at fault)) next = next ≡ Err (record { at = at; fault = fault })
 IsNext block (Err next_fault.Read) next = ⊤
-
--- the blobs of known types in bytes from this offset on, and the first fault
-abbrev pub known_at : ℕ → List ℕ → Reading model.Frame FrameFaultAt
-known_at at bytes = let read = frames_at at bytes in record { items = known_frames read.items; fault = read.fault }
 
 -- Of the blobs that were left the first was given, and the others are left; or none was left, and there is no fault, or
 -- this one. Where the source failed nothing is said.

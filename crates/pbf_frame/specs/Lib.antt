@@ -5,3 +5,4 @@ pub mod Samples
 pub mod BlobSteps
 pub mod FrameReading
 pub mod BlobReading
+pub mod BlobPass
