@@ -2,7 +2,8 @@
 use Rattle.std.proofs.Common.{◌≡◌, ◌≢◌, ◌∙◌, ℕ, List, ◌++◌, refl, sym, ap, subst, append-nil, append_assoc, Option}
 use Rattle.std.proofs.Common.{Some, None, Result, Ok, Err}
 use Rattle.mf_base.proofs.StepLaws.{err_is_no_ok}
-use Rattle.mf_edge.specs.Stream.{StreamState}
+use Rattle.mf_edge.specs.Stream.{StreamState, FailsWhere}
+use Rattle.osm_model.specs.declared.faults.InputFault.{InputFault}
 use Rattle.osm_model.proofs.BlockLaws.{err_is}
 use Rattle.osm_model.specs.declared.faults.FrameFault.{FrameFault}
 use Rattle.osm_model.specs.declared.faults.InputCode.{InputCode}
@@ -135,3 +136,17 @@ sofar-none A before es whole mid new block result (next_fault.Frame at why) told
     subst (λ t. IsPassed {A = A} (Err t) before es whole) (sym (frame at why refl))
     (goes-no_blob before es whole (known_at mid.offset rest) at why goes
     (subst (λ r. GivesBlob block r (known_at mid.offset rest) (known_at new.offset behind)) is gives))
+
+-- ---- faults of the source
+
+pub input_is_no_read : {A : Type 0} (f : InputFault)
+    → ◌≡◌ {A = Result A PassFault} (Err (pass_fault.Input f)) (Err pass_fault.Read) → ⊥
+input_is_no_read f same = let wrong : pass_fault.Input f ≡ pass_fault.Read = err_is _ _ same in cc
+
+-- a step that fails where the whole does, behind steps that did not fail
+pub faults-then : {Whole Step : Type 0} (old mid new : StreamState) → (Whole → Step) → (Step → Whole)
+    → mid.source.faults ≡ old.source.faults → FailsWhere Step mid new → FailsWhere Whole old new
+faults-then old mid new there back same step = record {
+  failed = λ whole. rw same at step.failed (there whole);
+  same_faults = λ no. step.same_faults (λ failed. no (back failed)) ∙ same;
+}

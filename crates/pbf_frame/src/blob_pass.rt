@@ -1,8 +1,8 @@
 //! A pass over the blobs of an input: what each holds is handed to a reader, up to the first fault.
 
-ghost use Rattle.std.specs.Prelude.{◌≡◌, ◌-◌, ◌<◌, ◌≤◌, ◌^◌, ◌++◌, ℕ, List, OnOk, Some, slice_range, length};
+ghost use Rattle.std.specs.Prelude.{◌≡◌, ◌-◌, ◌<◌, ◌≤◌, ◌^◌, ◌++◌, ℕ, List, OnOk, Some, Err, slice_range, length};
 ghost use Rattle.mf_base.specs.Steps.{fault_of};
-ghost use Rattle.mf_edge.specs.Stream.{at};
+ghost use Rattle.mf_edge.specs.Stream.{FailsWhere, at};
 ghost use Rattle.osm_model.specs.declared.limits.TheConstants.{BLOB_LIMIT};
 ghost use Rattle.osm_model.specs.Frames.{known_at};
 ghost use Rattle.osm_model.specs.Entities.{Entity};
@@ -56,6 +56,7 @@ pub fn read_blobs<S: Source, B: BlobReader>(
     ensures passed { (all : List ℕ) → (at S.state src.old).source.left ≡ Some all
         → IsPassed result (B.entities reader.old) (B.entities reader.new)
         (outcome_behind (B.entities reader.old) (known_at (at S.state src.old).offset all)) }
+    ensures faults { FailsWhere (result ≡ Err PassFault.Read) (at S.state src.old) (at S.state src.new) }
 {
     let mut frames = Frames::new();
     loop {
@@ -77,6 +78,7 @@ fn pass_fault(fault: NextFault) -> PassFault
     ensures frame { (begin : ℕ) (told : FrameFault) → fault ≡ NextFault.Frame begin told
         → result ≡ PassFault.Input (record { at = begin; code = InputCode.Frame told }) }
     ensures source { fault ≡ NextFault.Read → result ≡ PassFault.Read }
+    ensures only { result ≡ PassFault.Read → fault ≡ NextFault.Read }
 {
     match fault {
         NextFault::Read => PassFault::Read,

@@ -8,6 +8,9 @@ use Rattle.osm_model.specs.Frames.{known_at}
 use Rattle.osm_model.specs.Outcome.{outcome_behind}
 use Rattle.pbf_frame.specs.FrameReading.{content_shown}
 use Rattle.pbf_frame.proofs.BlobPass.{sofar-blob, sofar-fault, sofar-end, sofar-none}
+use Rattle.mf_base.proofs.StepLaws.{err_is_no_ok}
+use Rattle.osm_model.proofs.BlockLaws.{err_is}
+use Rattle.pbf_frame.proofs.BlobPass.{faults-then, input_is_no_read}
 use Rattle.pbf_frame.proofs.blob_pass.read_blobs.Goals as goal
 
 pub returns-in-Err-read : goal.returns-in-Err-read
@@ -21,6 +24,9 @@ returns-in-Err-read g c = record {
       sofar-fault (g.B.BlobReader.entities c.args.reader.now) es _ (at g.S.Source.state c.loop-frame.src)
       (at g.S.Source.state c.next.new.src) c.next.new.block.bytes c.next.result f c.in-Err-read.code
       (c.loop-frame.invariant.0 all told) c.next.ensures.in_order is wrong;
+  faults = faults-then (at g.S.Source.state c.args.src.now) (at g.S.Source.state c.loop-frame.src)
+      (at g.S.Source.state c.next.new.src) (λ e. absurd (input_is_no_read _ e)) (λ e. absurd (err_is_no_ok _ _ (sym e ∙ c.in-Ok-Some.is)))
+      c.loop-frame.invariant.3 c.next.ensures.faults;
 }
 
 pub loop-frame-preserved : goal.loop-frame-preserved
@@ -41,6 +47,7 @@ loop-frame-preserved g c =
           c.bytes.ensures.bytes),
       omega (arith, c.next.ensures.capacity, c.loop-frame.invariant.1),
       omega (arith, given.below),
+      c.next.ensures.faults.same_faults (λ e. absurd (err_is_no_ok _ _ (sym e ∙ c.in-Ok-Some.is))) ∙ c.loop-frame.invariant.3,
     )
 
 pub returns-in-Ok-None : goal.returns-in-Ok-None
@@ -51,6 +58,9 @@ returns-in-Ok-None g c = record {
       (at g.S.Source.state c.loop-frame.src)
       (at g.S.Source.state c.next.new.src) c.next.new.block.bytes c.next.result
       (c.loop-frame.invariant.0 all told) c.next.ensures.in_order is;
+  faults = faults-then (at g.S.Source.state c.args.src.now) (at g.S.Source.state c.loop-frame.src)
+      (at g.S.Source.state c.next.new.src) (λ e. absurd (err_is_no_ok _ _ (sym e))) (λ e. absurd (err_is_no_ok _ _ (sym e ∙ c.in-Ok-None.is)))
+      c.loop-frame.invariant.3 c.next.ensures.faults;
 }
 
 pub returns-in-Err : goal.returns-in-Err
@@ -61,4 +71,9 @@ returns-in-Err g c = record {
       (at g.S.Source.state c.next.new.src) c.next.new.block.bytes c.next.result c.in-Err.fault c.pass_fault.result
       (c.loop-frame.invariant.0 all told) c.next.ensures.in_order c.in-Err.is c.pass_fault.ensures.source
       c.pass_fault.ensures.frame;
+  faults = faults-then (at g.S.Source.state c.args.src.now) (at g.S.Source.state c.loop-frame.src)
+      (at g.S.Source.state c.next.new.src)
+      (λ e. c.in-Err.is ∙ ap Err (c.pass_fault.ensures.only (err_is _ _ e)))
+      (λ e. ap Err (c.pass_fault.ensures.source (err_is _ _ (sym c.in-Err.is ∙ e))))
+      c.loop-frame.invariant.3 c.next.ensures.faults;
 }

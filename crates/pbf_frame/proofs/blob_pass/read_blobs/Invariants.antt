@@ -18,6 +18,7 @@ invariant-loop-frame g l =
     × GoesOn before now (outcome_behind before (known_at old.offset all))
     (outcome_behind now (known_at new.offset rest)))
     × (BLOB_LIMIT ≤ l.block.capacity) × (new.offset < 2 ^ 63 - 1)
+    × (new.source.faults ≡ old.source.faults)
 
 abbrev pub decreases-loop-frame : goal.decreases-loop-frame
 decreases-loop-frame g l = 2 ^ 63 - (at g.S.Source.state l.src).offset
