@@ -1,0 +1,4 @@
+pub mod Putting
+pub mod TagStrings
+pub mod EachInterval
+pub mod HeaderBytes
