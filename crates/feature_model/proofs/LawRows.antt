@@ -25,7 +25,11 @@ bench-accepted =
       record {
         least = omega arith;
         most = omega arith;
-        parts = (refl, All-from_recursion (λ (t : Tag). (is_utf8 t.0 ≡ true) × (is_utf8 t.1 ≡ true)) ((codes "amenity", codes "bench") ∷ []) ((refl, refl), tt));
+        parts = (
+          refl,
+          All-from_recursion (λ (t : Tag). (is_utf8 t.0 ≡ true) × (is_utf8 t.1 ≡ true))
+              ((codes "amenity", codes "bench") ∷ []) ((refl, refl), tt),
+        );
       },
       tt,
     )

@@ -45,7 +45,8 @@ pub fn found_by_id()
 #[tactic(auto, using(crate::proofs::ShapeLaws::shape_laws))]
 pub fn candidates_by_kind()
     ensures weight { (c : Candidate)
-        → weight c ≡ weight_of_counts (length (parts_of c.geometry)) (point_count c.geometry) (texts_length c.description) }
+        → weight c ≡ weight_of_counts (length (parts_of c.geometry)) (point_count c.geometry)
+        (texts_length c.description) }
     ensures kinds { (mapping : Mapping) (entities : List Entity) → candidates mapping entities
         ≡ filter_map (candidate_of mapping entities) (map node (nodes_of entities))
         ++ filter_map (candidate_of mapping entities) (map way (ways_of entities))

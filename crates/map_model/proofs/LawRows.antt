@@ -18,7 +18,15 @@ use Rattle.map_model.proofs.WrittenLevels.{writable-of}
 
 pub settings-are : IsHeadSettings (settings_to 7)
 unfolding compute
-settings-are = record { date = omega arith; start = tt; start_zoom = tt; language = tt; comment = tt; created_by = tt; intervals = refl }
+settings-are = record {
+  date = omega arith;
+  start = tt;
+  start_zoom = tt;
+  language = tt;
+  comment = tt;
+  created_by = tt;
+  intervals = refl;
+}
 
 bench-entry : IsEntry which.List.Poi (entry (codes "amenity") (codes "bench") 5)
 unfolding compute
@@ -34,7 +42,11 @@ none-distinct = tt
 
 pub mapping-is : IsMapping benches
 mapping-is = record {
-  poi = record { few = omega arith; rules = (bench-entry, tt); distinct = one-distinct (entry (codes "amenity") (codes "bench") 5) };
+  poi = record {
+    few = omega arith;
+    rules = (bench-entry, tt);
+    distinct = one-distinct (entry (codes "amenity") (codes "bench") 5);
+  };
   way = record { few = omega arith; rules = tt; distinct = none-distinct };
 }
 
@@ -59,7 +71,8 @@ bench-proper = record {
 
 bench-of_input : IsOfInput bench
 unfolding compute
-bench-of_input = record { id = (omega arith, omega arith); places = refl; name = tt; house = tt; reference = tt; kept = (tt, tt) }
+bench-of_input =
+    record { id = (omega arith, omega arith); places = refl; name = tt; house = tt; reference = tt; kept = (tt, tt) }
 
 pub bench-written : IsWritten benches bench
 bench-written = record { proper = bench-proper; input = bench-of_input; light = omega arith }
@@ -68,11 +81,16 @@ pub bench-writable : IsWritable bench
 bench-writable = writable-of benches bench mapping-is bench-written
 
 pub bench-stands : StandInOrder (zoom_range 0 0 7) (bench ∷ [])
-bench-stands = record { zooms = (omega arith, tt); pairs = all_pairs (StandsBefore (zoom_range 0 0 7)) (bench ∷ []) (tt, tt) }
+bench-stands = record {
+  zooms = (omega arith, tt);
+  pairs = all_pairs (StandsBefore (zoom_range 0 0 7)) (bench ∷ []) (tt, tt);
+}
 
 pub tiles-follow : AllPairs TileBelow (lake_tile 16 14 ∷ lake_tile 17 14 ∷ lake_tile 16 15 ∷ [])
 tiles-follow =
-    all_pairs TileBelow (lake_tile 16 14 ∷ lake_tile 17 14 ∷ lake_tile 16 15 ∷ [])
-    ((inr (refl, inr (refl, inl (omega arith))), (inr (refl, inl (omega arith)), tt)), ((inr (refl, inl (omega arith)), tt), (tt, tt)))
+    all_pairs TileBelow (lake_tile 16 14 ∷ lake_tile 17 14 ∷ lake_tile 16 15 ∷ []) (
+      (inr (refl, inr (refl, inl (omega arith))), (inr (refl, inl (omega arith)), tt)),
+      ((inr (refl, inl (omega arith)), tt), (tt, tt)),
+    )
 
 pub ruleset premises = (settings-are, mapping-is, bench-written, bench-writable, bench-stands)

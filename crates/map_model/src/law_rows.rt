@@ -10,7 +10,8 @@ ghost use Rattle.map_model.specs.NumberedMembers.{TileBelow};
 ghost use Rattle.map_model.specs.Room.{IsWritable, IsWritten};
 ghost use Rattle.map_model.specs.Samples.{settings_to, degree_box, bench, lake_tile, zoom_range};
 
-/// A mapping of benches, settings of one interval, a box, a bench and tiles that follow each other are what the laws ask for.
+/// A mapping of benches, settings of one interval, a box, a bench and tiles that follow each other are what the laws
+/// ask for.
 pub fn premises_are_met()
     ensures settings { IsHeadSettings (settings_to 7) }
     ensures mapping { IsMapping benches }

@@ -60,7 +60,8 @@ pub fn room_of_a_tile()
 pub fn features_may_be_written()
     ensures writable { (mapping : Mapping) (f : Feature) → IsMapping mapping → IsWritten mapping f → IsWritable f }
     ensures levels { (mapping : Mapping) (tile : TilePlace) (fs : List Feature) → IsMapping mapping
-        → AllByRecursion (IsWritten mapping) fs → length fs < 2 ^ 63 → AllByRecursion (IsLevel (tag_lists mapping)) (written_levels tile fs) }
+        → AllByRecursion (IsWritten mapping) fs → length fs < 2 ^ 63
+        → AllByRecursion (IsLevel (tag_lists mapping)) (written_levels tile fs) }
     ensures read { (mapping : Mapping) (tile : TilePlace) (fs : List Feature) → IsMapping mapping
         → AllByRecursion (IsWritten mapping) fs → weight_of_tile fs ≤ rows_limit → tile.x < 2 ^ tile.interval.base
         → tile.interval.max ≤ 21 → fs ≡ in_tile_order tile.interval fs

@@ -68,9 +68,19 @@ pub fn latitudes()
 pub fn rectangles()
     ensures of_places { rect_of_places (at_place (pos 1) (pos 5) ∷ at_place (negsuc 2) (pos 9) ∷ [])
         ≡ record { min_lat = negsuc 2; min_lon = pos 5; max_lat = pos 1; max_lon = pos 9 } }
-    ensures first_column { (tile_rect (record { min_lat = pos 0; min_lon = pos 11250000; max_lat = pos 0; max_lon = pos 12000000 })
+    ensures first_column { (tile_rect (record {
+      min_lat = pos 0;
+      min_lon = pos 11250000;
+      max_lat = pos 0;
+      max_lon = pos 12000000;
+    })
         5).first_x ≡ 17 }
-    ensures last_column { (tile_rect (record { min_lat = pos 0; min_lon = pos 11250000; max_lat = pos 0; max_lon = pos 12000000 })
+    ensures last_column { (tile_rect (record {
+      min_lat = pos 0;
+      min_lon = pos 11250000;
+      max_lat = pos 0;
+      max_lon = pos 12000000;
+    })
         5).last_x ≡ 17 }
     ensures in_tile_order { tiles_of (record { z = 1; first_x = 0; last_x = 1; first_y = 0; last_y = 1 })
         ≡ (0, 0) ∷ (1, 0) ∷ (0, 1) ∷ (1, 1) ∷ [] }

@@ -29,8 +29,12 @@ pub fn bytes_of_rows()
 pub fn widths_of_rows()
     ensures widths { (n : NodeRow) (r : RefRow) (p : PointRow) (m : MemberRow) (l : RelRow) (f : FeatureRow)
         (s : ShapeRow) (t : TileRow) (i : IndexRow) →
-        map (λ row. fields_width (fields_of row)) (node_row n ∷ ref_row r ∷ point_row p ∷ member_row m ∷ rel_row l ∷ feature_row f ∷ shape_row s ∷ tile_row t ∷ index_row i ∷ []) ≡ 16 ∷ 20 ∷ 28 ∷ 21 ∷ 33 ∷ 29 ∷ 28 ∷ 39 ∷ 18 ∷ [] }
+        map (λ row. fields_width (fields_of row)) (node_row n ∷ ref_row r ∷ point_row p ∷ member_row m ∷ rel_row
+        l ∷ feature_row f ∷ shape_row s ∷ tile_row t ∷ index_row i ∷ [])
+        ≡ 16 ∷ 20 ∷ 28 ∷ 21 ∷ 33 ∷ 29 ∷ 28 ∷ 39 ∷ 18 ∷ [] }
     ensures keys { (n : NodeRow) (r : RefRow) (p : PointRow) (m : MemberRow) (l : RelRow) (f : FeatureRow)
         (s : ShapeRow) (t : TileRow) (i : IndexRow) →
-        map (λ (row : Row). fields_width row.key) (node_row n ∷ ref_row r ∷ point_row p ∷ member_row m ∷ rel_row l ∷ feature_row f ∷ shape_row s ∷ tile_row t ∷ index_row i ∷ []) ≡ 8 ∷ 20 ∷ 12 ∷ 20 ∷ 16 ∷ 13 ∷ 12 ∷ 23 ∷ 9 ∷ [] }
+        map (λ (row : Row). fields_width row.key) (node_row n ∷ ref_row r ∷ point_row p ∷ member_row m ∷ rel_row
+        l ∷ feature_row f ∷ shape_row s ∷ tile_row t ∷ index_row i ∷ [])
+        ≡ 8 ∷ 20 ∷ 12 ∷ 20 ∷ 16 ∷ 13 ∷ 12 ∷ 23 ∷ 9 ∷ [] }
 {}

@@ -1,4 +1,5 @@
-use Rattle.map_model.proofs.LawRows.{settings-are, mapping-is, bench-written, bench-writable, bench-stands, tiles-follow}
+use Rattle.map_model.proofs.LawRows.{settings-are, mapping-is, bench-written, bench-writable, bench-stands}
+use Rattle.map_model.proofs.LawRows.{tiles-follow}
 use Rattle.map_model.proofs.law_rows.premises_are_met.Goals as goal
 
 pub returns-clause-settings : goal.returns-clause-settings

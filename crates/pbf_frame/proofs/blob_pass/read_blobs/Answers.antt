@@ -25,7 +25,8 @@ returns-in-Err-read g c = record {
       (at g.S.Source.state c.next.new.src) c.next.new.block.bytes c.next.result f c.in-Err-read.code
       (c.loop-frame.invariant.0 all told) c.next.ensures.in_order is wrong;
   faults = faults-then (at g.S.Source.state c.args.src.now) (at g.S.Source.state c.loop-frame.src)
-      (at g.S.Source.state c.next.new.src) (λ e. absurd (input_is_no_read _ e)) (λ e. absurd (err_is_no_ok _ _ (sym e ∙ c.in-Ok-Some.is)))
+      (at g.S.Source.state c.next.new.src) (λ e. absurd (input_is_no_read _ e))
+      (λ e. absurd (err_is_no_ok _ _ (sym e ∙ c.in-Ok-Some.is)))
       c.loop-frame.invariant.3 c.next.ensures.faults;
 }
 
@@ -47,7 +48,8 @@ loop-frame-preserved g c =
           c.bytes.ensures.bytes),
       omega (arith, c.next.ensures.capacity, c.loop-frame.invariant.1),
       omega (arith, given.below),
-      c.next.ensures.faults.same_faults (λ e. absurd (err_is_no_ok _ _ (sym e ∙ c.in-Ok-Some.is))) ∙ c.loop-frame.invariant.3,
+      c.next.ensures.faults.same_faults (λ e. absurd (err_is_no_ok _ _ (sym e ∙ c.in-Ok-Some.is)))
+          ∙ c.loop-frame.invariant.3,
     )
 
 pub returns-in-Ok-None : goal.returns-in-Ok-None
@@ -59,7 +61,8 @@ returns-in-Ok-None g c = record {
       (at g.S.Source.state c.next.new.src) c.next.new.block.bytes c.next.result
       (c.loop-frame.invariant.0 all told) c.next.ensures.in_order is;
   faults = faults-then (at g.S.Source.state c.args.src.now) (at g.S.Source.state c.loop-frame.src)
-      (at g.S.Source.state c.next.new.src) (λ e. absurd (err_is_no_ok _ _ (sym e))) (λ e. absurd (err_is_no_ok _ _ (sym e ∙ c.in-Ok-None.is)))
+      (at g.S.Source.state c.next.new.src) (λ e. absurd (err_is_no_ok _ _ (sym e)))
+      (λ e. absurd (err_is_no_ok _ _ (sym e ∙ c.in-Ok-None.is)))
       c.loop-frame.invariant.3 c.next.ensures.faults;
 }
 
