@@ -12,3 +12,5 @@ mod options;
 pub mod sub_file;
 pub mod tag_source;
 mod tags;
+#[cfg(test)]
+mod tests;
