@@ -2,7 +2,7 @@
 use Rattle.std.proofs.Common.{◌≡◌, ◌∙◌, ◌∷◌, ◌++◌, ◌+◌, ◌-◌, ◌<◌, ◌≤◌, ℕ, suc, List, [], Bool, true, false, cond}
 use Rattle.std.proofs.Common.{Option, Some, None, Result, Ok, Err, ap, refl, sym, subst, inl, inr, length, take, drop}
 use Rattle.std.proofs.Common.{map, arith, append_assoc, length-append, append-nil, nat_lt}
-use Rattle.std.specs.Prelude.{OnOk, option_map, slice_range, not, position}
+use Rattle.std.specs.Prelude.{OnOk, OnErr, is_some, option_map, slice_range, not, position}
 use Rattle.std.specs.Option.{option_or}
 use Rattle.std.specs.List.{prefix_len}
 use Rattle.std.specs.Str.{is_utf8}
@@ -10,7 +10,8 @@ use Rattle.std.proofs.lemmas.Bool.{le-leb, lt-leb, lt-ltb, le-ltb, cases_Bool, c
 use Rattle.std.proofs.lemmas.List.{drop_at, take-append-drop, drop-drop, length-take, length-drop, map-append}
 use Rattle.std.proofs.Math.Seq.{drop-append-add}
 use Rattle.mf_base.specs.Texts.{Text}
-use Rattle.mf_base.specs.Entries.{text_at}
+use Rattle.std.proofs.lemmas.Option.{none-some}
+use Rattle.mf_base.specs.Entries.{text_at, are_texts}
 use Rattle.mf_base.specs.NumberReading.{varint_front}
 use Rattle.mf_base.specs.Steps.{◌>>=◌, refuse, fault_of}
 use Rattle.mf_base.specs.Spelling.{IsVarint}
@@ -314,3 +315,25 @@ reads_of left rest given b = fields-more left b.field b.size b.front
 pub on_ok : {T E P : Type 0} (r : Result T E) → P → OnOk r P
 on_ok (Ok x) p = p
 on_ok (Err e) p = tt
+
+-- ---- a table that was indexed serves its block
+
+some_held : (block places : List ℕ) (texts : List Text) → AreAt block places texts → are_texts block places ≡ true
+some_held block [] texts e = refl
+some_held block (p ∷ ps) [] e = absurd (cc e)
+some_held block (p ∷ ps) (t ∷ ts) e =
+    let first : text_at block p ≡ Some t = cc e in
+    let others : AreAt block ps ts = cc e in
+    rw first (some_held block ps ts others)
+
+pub strings_held : (block places : List ℕ) (r : Result (Unit {0}) BlockFault)
+    → fault_of r ≡ fault_of (block_strings block)
+    → ((texts : List Text) → block_strings block ≡ Ok texts → AreAt block places texts)
+    → OnErr r (places ≡ []) → are_texts block places ≡ true
+strings_held block places r refused strings empty = go (block_strings block) refl r refused empty
+  where
+    go : (told : Result (List Text) BlockFault) → block_strings block ≡ told → (r : Result (Unit {0}) BlockFault)
+        → fault_of r ≡ fault_of (block_strings block) → OnErr r (places ≡ []) → are_texts block places ≡ true
+    go (Ok texts) e r same none = some_held block places texts (strings texts e)
+    go (Err fault) e (Ok u) same none = absurd (none-some fault (same ∙ ap fault_of e))
+    go (Err fault) e (Err f) same none = subst (λ p. are_texts block p ≡ true) (sym none) refl

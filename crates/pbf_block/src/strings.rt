@@ -68,6 +68,9 @@ impl Strings {
         ensures refused { fault_of result ≡ fault_of (block_strings block.now) }
         ensures strings { (texts : List Text) → block_strings block.now ≡ Ok texts → AreAt block.now self.new texts }
         ensures empty { OnErr result (self.new ≡ []) }
+
+        // What stands there serves `get` over this block.
+        ensures held { are_texts block.now self.new ≡ true }
     {
         self.places.clear();
         match read_message(block, &PRIMITIVE_BLOCK) {

@@ -1,6 +1,6 @@
 use Rattle.std.proofs.Common.{◌∙◌, refl, sym, ap}
 use Rattle.mf_base.specs.Steps.{fault_of}
-use Rattle.pbf_block.proofs.StringReads.{block-refused, block-none, block-some, no_texts}
+use Rattle.pbf_block.proofs.StringReads.{block-refused, block-none, block-some, no_texts, strings_held}
 use Rattle.pbf_wire.proofs.MessageReads.{within_place, none_place, some_place}
 use Rattle.pbf_block.proofs.strings.Strings.index.Goals as goal
 
@@ -37,3 +37,11 @@ returns-in-Some-clause-strings c texts e =
     let some = block-some c.args.block.now _ _ c.in-Ok.ensures.message
     (some_place c.args.block.now _ _ (c.in-Ok.ensures.found 1 0 refl) c.in-Some.is) in
     c.index_table.ensures.strings texts (sym some ∙ e)
+
+pub returns-in-Some-clause-held : goal.returns-in-Some-clause-held
+returns-in-Some-clause-held c =
+    let some = block-some c.args.block.now _ _ c.in-Ok.ensures.message
+    (some_place c.args.block.now _ _ (c.in-Ok.ensures.found 1 0 refl) c.in-Some.is) in
+    strings_held c.args.block.now c.index_table.new.self c.index_table.result
+    (c.index_table.ensures.refused ∙ sym (ap fault_of some))
+    (λ texts e. c.index_table.ensures.strings texts (sym some ∙ e)) c.index_table.ensures.empty
