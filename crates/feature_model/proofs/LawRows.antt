@@ -1,15 +1,15 @@
 -- The premises of the laws are met: by a bench and a path of four nodes.
 use Rattle.std.proofs.Common.{◌≡◌, ◌<◌, [], ◌∷◌, refl, arith, true}
 use Rattle.std.specs.Prelude.{codes}
-use Rattle.std.specs.List.{All}
+use Rattle.std.specs.List.{All, AllByRecursion}
 use Rattle.std.specs.Str.{is_utf8}
 use Rattle.std.proofs.lemmas.List.Elements.{All-from_recursion}
 use Rattle.mf_base.specs.Tags.{Tag}
 use Rattle.mf_base.proofs.Pairs.{all_pairs}
-use Rattle.osm_model.specs.Entities.{id_of}
+use Rattle.osm_model.specs.Entities.{Node, Way, nodes_of, ways_of, id_of}
 use Rattle.osm_model.specs.Order.{kind_and_id, Precedes, IsRising}
 use Rattle.osm_model.specs.Accepted.{IsAccepted}
-use Rattle.feature_model.specs.Samples.{bench_with}
+use Rattle.feature_model.specs.Samples.{bench_with, three_of_four}
 use Rattle.feature_model.proofs.Compute.{compute}
 
 pub bench-rises : IsRising (bench_with [])
@@ -33,3 +33,12 @@ bench-accepted =
       },
       tt,
     )
+
+pub other-nodes : AllByRecursion (λ (n : Node). n.id ≡ 3 → ⊥) (nodes_of three_of_four)
+other-nodes = (
+  λ e. absurd (omega (arith, e)),
+  (λ e. absurd (omega (arith, e)), (λ e. absurd (omega (arith, e)), tt)),
+)
+
+pub other-ways : AllByRecursion (λ (w : Way). w.id ≡ 3 → ⊥) (ways_of three_of_four)
+other-ways = (λ e. absurd (omega (arith, e)), tt)

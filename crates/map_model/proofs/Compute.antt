@@ -12,6 +12,7 @@ use Rattle.map_model.specs.Mercator.{edge_lat, column, corner_lat, corner_lon, c
 use Rattle.map_model.specs.Rectangles.{rect_of_places}
 use Rattle.map_model.specs.TileRects.{tile_rect, common, meets, tiles_of}
 use Rattle.map_model.specs.Intervals.{interval_tiles}
+use Rattle.map_model.specs.IntervalWords.{read_interval, read_intervals}
 use Rattle.map_model.specs.Members.{in_tile, in_tile_order, members}
 use Rattle.map_model.specs.Bitmap.{rect_bits, sub_tile_bits}
 use Rattle.map_model.specs.Labels.{label_place}
@@ -40,7 +41,8 @@ use Rattle.map_model.specs.Listing.{printed, tile_line, tile_text, show_fault_te
 
 unfoldable pub compute : ⊤
 unfolding base.compute shapes.compute digits is_utf8 chars encode column corner_lon rect_of_places tile_rect common
-    meets tiles_of interval_tiles in_tile in_tile_order members rect_bits sub_tile_bits label_place sized tag_bytes
+    meets tiles_of interval_tiles
+    read_interval read_intervals in_tile in_tile_order members rect_bits sub_tile_bits label_place sized tag_bytes
     poi_fields_bytes ring_steps coordinate_bytes ring_bytes block_bytes way_body_bytes way_fields_bytes levels_bytes
     poi_fields poi_bytes coordinate_size is_double way_fields way_bytes tile_bytes written_level written_levels tag_kind
     shown_levels listed times read_each number signed count_from tile_text_at ranged place_from layer_at id_at tags_at

@@ -225,14 +225,6 @@ area_of blocks = record (way_of []) { shape = Shape.blocks blocks }
 abbrev pub content : Bool → List ℕ → TileContent
 content water bytes = record { water = water; bytes = bytes }
 
--- the default intervals
-abbrev pub three_intervals : List Interval
-three_intervals = record { base = 5; min = 0; max = 7 } ∷ record { base = 10; min = 8; max = 11 } ∷ record {
-  base = 14;
-  min = 12;
-  max = 21;
-} ∷ []
-
 -- the box of the place (0, 0)
 abbrev pub origin_box : Rect
 origin_box = record { min_lat = pos 0; min_lon = pos 0; max_lat = pos 0; max_lon = pos 0 }

@@ -11,6 +11,7 @@ ghost use Rattle.feature_model.specs.Samples.{benches, bench_with, paths, path, 
 ghost use Rattle.feature_model.specs.Samples.{forests, forest_of, outer, member_of};
 ghost use Rattle.map_model.specs.Mercator.{root_of_scale, raw_lat, row, column, edge_lat, corner, corner_lat};
 ghost use Rattle.map_model.specs.Intervals.{interval_tiles, are_intervals, effective_zoom};
+ghost use Rattle.map_model.specs.IntervalWords.{read_intervals, default_intervals};
 ghost use Rattle.map_model.specs.Members.{in_tile_order, members};
 ghost use Rattle.map_model.specs.Rectangles.{origin, rect_of_places};
 ghost use Rattle.map_model.specs.TileRects.{tile_rect, tiles_of, entry_place};
@@ -25,7 +26,7 @@ ghost use Rattle.map_model.specs.MapFile.{job_size, report, report_line};
 ghost use Rattle.map_model.specs.Samples.{zoom_range, numbered, zigzag, garden_tile, at_place, world_corner};
 ghost use Rattle.map_model.specs.Samples.{world_tile, to_origin, bench, bench_with_value, way_of, area_of, garden};
 ghost use Rattle.map_model.specs.Samples.{garden_bytes, eastward, outer_ring, inner_ring, lake, open_lake, lake_tile};
-ghost use Rattle.map_model.specs.Samples.{middle_tile, content, settings_to, three_intervals, origin_box};
+ghost use Rattle.map_model.specs.Samples.{middle_tile, content, settings_to, origin_box};
 ghost use Rattle.map_model.specs.Samples.{origin_header, degree_box, bench_tags, bench_map, empty_map, bench_numbers};
 ghost use Rattle.map_model.specs.Samples.{five_benches, late_benches};
 
@@ -110,7 +111,7 @@ pub fn rectangles()
 /// Intervals that follow each other, and what breaks the rule.
 #[tactic(auto, unfolding(crate::proofs::Compute::compute))]
 pub fn intervals()
-    ensures three { are_intervals three_intervals ≡ true }
+    ensures three { are_intervals default_intervals ≡ true }
     ensures one { are_intervals (zoom_range 0 0 21 ∷ []) ≡ true }
     ensures late { are_intervals (zoom_range 16 3 16 ∷ zoom_range 16 17 21 ∷ []) ≡ false }
     ensures broken { map are_intervals
@@ -125,6 +126,16 @@ pub fn intervals()
         (in_tile_order (zoom_range 10 8 11) (numbered EntityKind.Node 1 11 ∷ numbered EntityKind.Node 2 5 ∷ numbered
         EntityKind.Node 3 8 ∷ numbered EntityKind.Way 4 9 ∷ numbered EntityKind.Relation 5 7 ∷ []))
         ≡ 2 ∷ 3 ∷ 1 ∷ 5 ∷ 4 ∷ [] }
+{}
+
+/// Intervals as words.
+#[tactic(auto, unfolding(crate::proofs::Compute::compute))]
+pub fn interval_words()
+    ensures none_given { read_intervals (codes "5:0:7,10:8:11,14:12:21") ≡ Some default_intervals }
+    ensures one { read_intervals (codes "0:0:7") ≡ Some (zoom_range 0 0 7 ∷ []) }
+    ensures leading_zero { read_intervals (codes "016:3:21") ≡ Some (zoom_range 16 3 21 ∷ []) }
+    ensures broken { map (λ word. read_intervals (codes word))
+        ("" ∷ "0:1:7" ∷ "5:0:7,10:9:11" ∷ "5:0:7," ∷ "5:0" ∷ "5:0:7:8" ∷ "5:-0:7" ∷ "5:0:22" ∷ []) ≡ replicate 8 None }
 {}
 
 /// POIs of one bench, with a name, with a height, and with values in place of the bench.
@@ -233,13 +244,13 @@ pub fn headers()
         } ∷ record (settings_to 7) { created_by = Some (codes "d") } ∷ [])
         ≡ 0x00 ∷ 0x40 ∷ 0x20 ∷ 0x10 ∷ 0x08 ∷ 0x04 ∷ [] }
     ensures sizes { map
-        (λ options. header_size (record (settings_to 7) { intervals = three_intervals; language = options })
+        (λ options. header_size (record (settings_to 7) { intervals = default_intervals; language = options })
         bench_tags) (None ∷ Some (codes "en") ∷ []) ≡ 148 ∷ 151 ∷ [] }
-    ensures three_intervals { header_bytes (record (settings_to 7) { intervals = three_intervals }) origin_box
+    ensures default_intervals { header_bytes (record (settings_to 7) { intervals = default_intervals }) origin_box
         bench_tags (sub_files 148 (5 ∷ 5 ∷ 31 ∷ []))
         ≡ origin_header 0x7C 0xBD (0x00 ∷ []) 0x94 0x99 0x9E }
     ensures optional_fields { header_bytes (record (settings_to 7) {
-      intervals = three_intervals;
+      intervals = default_intervals;
       start = Some (at_place (pos 1) (negsuc 0));
       start_zoom = Some 12;
       language = Some (codes

@@ -4,7 +4,7 @@ use Rattle.std.proofs.Common.{pos, ◌+ℤ◌}
 use Rattle.std.proofs.lemmas.Bool.{eq-eqb, ne_eqb, and_left, and_right}
 use Rattle.osm_model.specs.declared.faults.EntityFault.TheVariants.{Columns}
 use Rattle.osm_model.specs.Blocks.{PrimitiveBlock}
-use Rattle.osm_model.specs.Objects.{TagRun, running_sums, running_sums_from, runs_of, first_run, other_runs, left_over}
+use Rattle.osm_model.specs.Objects.{TagRun, running_sums, running_sums_from, runs_of, next_run, other_runs, left_over}
 use Rattle.osm_model.specs.Objects.{dense_node, zip_three, with_runs, dense_from, dense_columns}
 use Rattle.osm_model.proofs.ColumnLaws.{column_from-cons}
 
@@ -22,7 +22,7 @@ from-end b (id, lat, lon) runs = refl
 
 pub from-next : (b : PrimitiveBlock) (n d : ℤ × ℤ × ℤ) (ids lats lons : List ℤ) (runs : Option (List TagRun))
     → dense_from b n (d.0 ∷ ids) (d.1 ∷ lats) (d.2 ∷ lons) runs
-    ≡ dense_node b (n.0 +ℤ d.0, n.1 +ℤ d.1, n.2 +ℤ d.2) (first_run runs)
+    ≡ dense_node b (n.0 +ℤ d.0, n.1 +ℤ d.1, n.2 +ℤ d.2) (next_run runs)
     ∷ dense_from b (n.0 +ℤ d.0, n.1 +ℤ d.1, n.2 +ℤ d.2) ids lats lons (other_runs runs)
 unfolding dense_from with_runs
 from-next b (id, lat, lon) (x, y, z) ids lats lons runs =

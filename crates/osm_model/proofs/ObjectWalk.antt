@@ -14,7 +14,7 @@ use Rattle.osm_model.specs.declared.faults.EntityFault.TheVariants as entity_fau
 use Rattle.osm_model.specs.Wire.{Field}
 use Rattle.osm_model.specs.Tables.{message, counted_bytes, packed_of, packed_sint64_of}
 use Rattle.osm_model.specs.Blocks.{PrimitiveBlock}
-use Rattle.osm_model.specs.Objects.{running_sums_from, runs_of, first_run, other_runs, left_over, zip_three, Object}
+use Rattle.osm_model.specs.Objects.{running_sums_from, runs_of, next_run, other_runs, left_over, zip_three, Object}
 use Rattle.osm_model.specs.Objects.{TagRun, node_object, dense_node, with_runs, dense_from, dense_columns}
 use Rattle.osm_model.specs.Objects.{dense_objects, way_object, relation_object, objects_at, field_objects, group_fields}
 use Rattle.osm_model.specs.Objects.{group_objects, block_objects}
@@ -62,7 +62,7 @@ with_runs_hold : (Q : Object → Type 0) (b : PrimitiveBlock) (each : HoldsOfEac
     (runs : Option (List TagRun)) → AllHold Q (with_runs b ns runs)
 unfolding with_runs
 with_runs_hold Q b each [] runs = left_over_holds Q runs
-with_runs_hold Q b each (n ∷ ns) runs = (each.dense n (first_run runs), with_runs_hold Q b each ns (other_runs runs))
+with_runs_hold Q b each (n ∷ ns) runs = (each.dense n (next_run runs), with_runs_hold Q b each ns (other_runs runs))
 
 from_holds : (Q : Object
     → Type 0) (b : PrimitiveBlock) (each : HoldsOfEach Q b) (n : ℤ × ℤ × ℤ) (ids lats lons : List ℤ)

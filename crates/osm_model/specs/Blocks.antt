@@ -1,7 +1,6 @@
 -- Header blocks, string tables and places: the OpenStreetMap wiki, "PBF Format", on HeaderBlock and PrimitiveBlock.
--- What a
--- box has to be, the limit on strings, that strings are UTF-8, and the order in which faults are looked for, is this
--- project's profile.
+-- What a box has to be, the limit on strings, that strings are UTF-8, and the order in which faults are looked for, is
+-- this project's profile.
 use Rattle.std.specs.Prelude.{ℕ, Bool, not, ◌&&◌, ◌||◌, nat_le, List, length, Option, Some, None, option_map, ok_or}
 use Rattle.std.specs.Prelude.{unwrap_or, position, Result, Ok, ℤ, pos, ◌+ℤ◌, ◌*ℤ◌, int_le, int_div, nat_abs, codes}
 use Rattle.std.specs.Prelude.{bytes_eq}

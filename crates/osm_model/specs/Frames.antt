@@ -1,8 +1,7 @@
 -- The blobs of an extract: the OpenStreetMap wiki, "PBF Format", on its file format. A blob is a length, a BlobHeader
--- and a
--- Blob; these two, with a capital, are messages. That the limit on datasize counts the whole Blob, that blobs begin
--- below
--- 2^62, that compressed data is refused, and the order in which faults are looked for, is this project's profile.
+-- and a Blob; these two, with a capital, are messages. That the limit on datasize counts the whole Blob, that blobs
+-- begin below 2^62, that compressed data is refused, and the order in which faults are looked for, is this project's
+-- profile.
 use Rattle.std.specs.Prelude.{Bool, true, false, filter, Result, ◌≡◌, ◌≢◌, ℕ, zero, suc, ◌+◌, ◌-◌, ◌≤◌, ◌<◌, ◌&&◌, ◌==◌}
 use Rattle.std.specs.Prelude.{nat_lt, nat_le, if◌then◌else◌, List, [], ◌∷◌, ◌++◌, length, take, drop, map, find, Option}
 use Rattle.std.specs.Prelude.{Some, None, option_map, ok_or, Ok, Err, codes, bytes_eq, MatchOption, ⊤}

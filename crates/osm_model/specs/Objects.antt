@@ -1,6 +1,5 @@
 -- The objects of a block: the OpenStreetMap wiki, "PBF Format", on PrimitiveGroup, Node, DenseNodes, Way and Relation.
--- That a group has one kind
--- alone, and the order in which faults are looked for, is this project's profile.
+-- That a group has one kind alone, and the order in which faults are looked for, is this project's profile.
 use Rattle.std.specs.Prelude.{◌<◌, ℕ, zero, suc, Bool, true, ◌&&◌, ◌==◌, nat_le, if◌then◌else◌, List, [], ◌∷◌, length}
 use Rattle.std.specs.Prelude.{map, zip, flat_map, filter_map, filter, slice_get, Option, Some, None, option_map, ok_or}
 use Rattle.std.specs.Prelude.{Result, Ok, Err, ℤ, pos, ◌+ℤ◌, nat_abs}
@@ -145,13 +144,13 @@ abbrev pub runs_of : List ℕ → Option (List TagRun)
 runs_of [] = None
 runs_of (k ∷ rest) = Some (tag_runs (k ∷ rest))
 
--- the run of the first node: where there is no list it has no tags, and where the list is used up it has none of it
-abbrev pub first_run : Option (List TagRun) → TagRun
-first_run None = empty_run by_zero
-first_run (Some []) = empty_run with_list
-first_run (Some (run ∷ runs)) = run
+-- the run of the next node: where there is no list it has no tags, and where the list is used up it has none of it
+abbrev pub next_run : Option (List TagRun) → TagRun
+next_run None = empty_run by_zero
+next_run (Some []) = empty_run with_list
+next_run (Some (run ∷ runs)) = run
 
--- the runs of the nodes behind the first
+-- the runs of the nodes behind that
 abbrev pub other_runs : Option (List TagRun) → Option (List TagRun)
 other_runs None = None
 other_runs (Some []) = Some []
@@ -172,7 +171,7 @@ dense_node in_block (id, lat, lon) run = do
 -- each node with its run, and then what is left over
 unfoldable pub with_runs : PrimitiveBlock → List (ℤ × ℤ × ℤ) → Option (List TagRun) → List (Result Object EntityFault)
 with_runs in_block [] runs = left_over runs
-with_runs in_block (n ∷ ns) runs = dense_node in_block n (first_run runs) ∷ with_runs in_block ns (other_runs runs)
+with_runs in_block (n ∷ ns) runs = dense_node in_block n (next_run runs) ∷ with_runs in_block ns (other_runs runs)
 
 -- three lists side by side
 abbrev pub zip_three : {A B C : Type 0} → List A → List B → List C → List (A × B × C)

@@ -11,6 +11,8 @@ use Rattle.osm_model.specs.declared.faults.BlockFault.{BlockFault}
 use Rattle.osm_model.specs.declared.faults.EntityFault.{EntityFault}
 use Rattle.osm_model.specs.declared.faults.InputFault.{InputFault}
 use Rattle.osm_model.specs.declared.faults.InputCode.TheVariants as input_codes
+use Rattle.osm_model.specs.Frames.{header, primitive, Frame}
+use Rattle.osm_model.specs.Blocks.{BlockHead}
 use Rattle.osm_model.specs.Entities.{Member, Entity, node, way, relation}
 use Prim.Native.String.{String}
 
@@ -148,6 +150,22 @@ bench_group = len_field 2 (hex "0A 01 02 42 01 00 4A 01 00 52 03 01 02 00")
 -- the input of 128 bytes
 abbrev pub one_bench : List ℕ
 one_bench = header_alone ++ data_blob bench_group
+
+-- its PrimitiveBlock
+abbrev pub bench_block : List ℕ
+bench_block = string_field bench_texts ++ len_field 2 bench_group
+
+-- the head of a block that tells neither granularity nor offsets
+abbrev pub usual_head : BlockHead
+usual_head = record { granularity = pos 100; lat_offset = pos 0; lon_offset = pos 0 }
+
+-- the blob of its HeaderBlock
+abbrev pub header_frame : Frame
+header_frame = record { at = 0; content = header header_raw }
+
+-- the blob of its PrimitiveBlock, behind that of the HeaderBlock
+abbrev pub bench_frame : Frame
+bench_frame = record { at = 73; content = primitive bench_block }
 
 -- the input of one bench with another byte in one place
 abbrev pub with_byte : ℕ → ℕ → List ℕ

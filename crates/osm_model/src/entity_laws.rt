@@ -2,7 +2,7 @@
 
 ghost use Rattle.std.specs.Prelude.{◌≡◌, ◌≢◌, ◌⊎◌, Err, ℕ, List, [], ◌∷◌, length, pos, ◌+ℤ◌, ℤ, Option};
 ghost use Rattle.osm_model.specs.Blocks.{PrimitiveBlock};
-ghost use Rattle.osm_model.specs.Objects.{TagRun, runs_of, first_run, other_runs, left_over, dense_node, dense_from};
+ghost use Rattle.osm_model.specs.Objects.{TagRun, runs_of, next_run, other_runs, left_over, dense_node, dense_from};
 ghost use Rattle.osm_model.specs.Objects.{dense_columns};
 
 use crate::faults::EntityFault;
@@ -22,7 +22,7 @@ pub fn columns_of_one_length()
 pub fn next_dense_node()
     ensures next { (b : PrimitiveBlock) (n d : ℤ × ℤ × ℤ) (ids lats lons : List ℤ) (runs : Option (List TagRun))
         → dense_from b n (d.0 ∷ ids) (d.1 ∷ lats) (d.2 ∷ lons) runs
-        ≡ dense_node b (n.0 +ℤ d.0, n.1 +ℤ d.1, n.2 +ℤ d.2) (first_run runs)
+        ≡ dense_node b (n.0 +ℤ d.0, n.1 +ℤ d.1, n.2 +ℤ d.2) (next_run runs)
         ∷ dense_from b (n.0 +ℤ d.0, n.1 +ℤ d.1, n.2 +ℤ d.2) ids lats lons (other_runs runs) }
     ensures end { (b : PrimitiveBlock) (n : ℤ × ℤ × ℤ) (runs : Option (List TagRun))
         → dense_from b n [] [] [] runs ≡ left_over runs }
