@@ -1,12 +1,12 @@
 -- The bits of the sub-tiles, one after another, the highest first.
-use Rattle.std.proofs.Common.{◌≡◌, ℕ, zero, suc, ◌+◌, ◌-◌, ◌*◌, ◌/◌, ◌%◌, ◌^◌, ◌<◌, ◌≤◌, List, [], ◌∷◌, ◌++◌, refl, sym}
+use Rattle.std.proofs.Common.{◌≡◌, ℕ, zero, suc, ◌+◌, ◌-◌, ◌*◌, ◌/◌, ◌%◌, ◌^◌, ◌<◌, [], ◌∷◌, ◌++◌, refl, sym}
 use Rattle.std.proofs.Common.{ap, ◌∙◌, arith, true, false}
 use Rattle.std.specs.Prelude.{Bool, if◌then◌else◌, sum_by}
 use Rattle.std.specs.List.{range_with_len}
 use Rattle.std.proofs.lemmas.List.Sums.{sum_by-append}
 use Rattle.std.proofs.Math.Nat.{pow-suc}
 use Rattle.mf_base.specs.declared.place.Rect.{Rect}
-use Rattle.map_model.specs.TileRects.{tile_rect, meets, has_tile}
+use Rattle.map_model.specs.TileRects.{meets}
 use Rattle.map_model.specs.Bitmap.{rect_bits}
 
 -- the number of a bit that is set or not

@@ -1,6 +1,6 @@
 -- The tiles of two rectangles, as the code has them.
-use Rattle.std.proofs.Common.{◌≡◌, ℕ, ◌<◌, ◌≤◌, refl, sym, ◌∙◌, ap, arith, Some, None}
-use Rattle.std.specs.Prelude.{Option, max, min}
+use Rattle.std.proofs.Common.{◌≡◌, ℕ, ◌<◌, ◌≤◌, refl, arith, Some, None}
+use Rattle.std.specs.Prelude.{max, min}
 use Rattle.std.proofs.lemmas.Bool.{le-leb, lt-leb}
 use Rattle.mf_base.specs.declared.tile.TileRect.{TileRect}
 use Rattle.map_model.specs.TileRects.{common}

@@ -1,6 +1,6 @@
-use Rattle.std.proofs.Common.{◌≡◌, ◌∙◌, ◌+◌, ◌*◌, ◌/◌, ◌%◌, ap, subst, sym, arith, ℕ}
+use Rattle.std.proofs.Common.{◌≡◌, ◌∙◌, ◌+◌, ◌*◌, ◌/◌, ◌%◌, arith}
 use Rattle.map_model.specs.TileRects.{meets}
-use Rattle.tile_assign.proofs.Bits.{AreBits, no_bits, one_more_bit, all_bits}
+use Rattle.tile_assign.proofs.Bits.{no_bits, one_more_bit, all_bits}
 use Rattle.tile_assign.proofs.bitmap.bitmap.Goals as goal
 
 pub loop-n-init : goal.loop-n-init

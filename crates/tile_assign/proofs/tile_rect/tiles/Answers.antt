@@ -1,5 +1,4 @@
 use Rattle.std.proofs.Common.{◌≡◌, sym, subst, rules}
-use Rattle.mf_base.specs.declared.tile.TileRect.{TileRect}
 use Rattle.map_model.specs.TileRects.{tile_rect, IsTileRect}
 use Rattle.map_model.proofs.RowLaws.{rect-tiles}
 use Rattle.tile_assign.proofs.tile_rect.tiles.Goals as goal
