@@ -1,5 +1,6 @@
 -- What the store in memory keeps. This project's own.
-use Rattle.std.specs.Prelude.{Vec, ◌≡◌, ◌≢◌, ℕ, ◌+◌, Bool, false, List, [], map, length, Option, Some, None, option_map}
+use Rattle.std.specs.Prelude.{Vec, ◌≡◌, ◌≢◌, ℕ, ◌+◌, ◌-◌, ◌^◌, min, ◌==◌, Bool, false, not, ◌&&◌, List, [], map}
+use Rattle.std.specs.Prelude.{length, take, drop, replicate, Option, Some, None, option_map, Contains, if◌then◌else◌}
 use Rattle.std.specs.Prelude.{unwrap_or, slice_index_or, count_by, is_some}
 use Rattle.mf_edge.specs.Spill.{SpillState}
 use Rattle.mf_edge.specs.Memory.{Calls}
@@ -63,6 +64,45 @@ pub record IsSetIn (part : ℕ) (bytes : List ℕ) (before after : List (Option 
   pub now : held after part ≡ Some bytes
   pub count : held_count after ≡ held_count before
   pub others : HoldsOthers part before after
+
+-- ---- its calls
+
+-- the next call is listed as one that fails
+abbrev pub FailsNext : Calls → Type 0
+FailsNext calls = Contains calls.listed (calls.made + 1)
+
+-- the calls with one more, which was answered Ok
+abbrev pub with_answer : Calls → Calls
+with_answer calls = record { made = calls.made + 1; listed = calls.listed; faults = calls.faults }
+
+-- the calls with one more, which failed
+abbrev pub with_failure : Calls → Calls
+with_failure calls =
+    record { made = calls.made + 1; listed = calls.listed; faults = min (calls.faults + 1) (2 ^ 64 - 1) }
+
+-- the bytes of a part; none, where it is not there
+abbrev pub held_bytes : List (Option (List ℕ)) → ℕ → List ℕ
+held_bytes parts part = unwrap_or (held parts part) []
+
+-- What a read of so many bytes of a part gives, from a place on: the part's bytes, or the zeros of the one read that a
+-- store that tells nothing answers so.
+abbrev pub read_bytes : MemoryStore → ℕ → ℕ → ℕ → List ℕ
+read_bytes s part at n =
+    if not s.tells && (s.until_zeros == 1) then replicate n 0 else take n (drop at (held_bytes s.parts part))
+
+-- the store as a start in a folder leaves it, with its calls then
+abbrev pub restarted : List ℕ → Bool → Calls → MemoryStore → MemoryStore
+restarted folder started calls s = record s {
+  name = Some folder;
+  is_started = started;
+  is_overrun = false;
+  parts = [];
+  calls = calls;
+}
+
+-- the store as a read leaves it, with its calls then
+abbrev pub after_read : Calls → MemoryStore → MemoryStore
+after_read calls s = record s { calls = calls; until_zeros = s.until_zeros - 1 }
 
 -- ---- what it tells
 

@@ -1,8 +1,12 @@
 //! A store in memory.
 
 ghost use Rattle.std.specs.Prelude.{◌≡◌, ◌≢◌, ℕ, ◌+◌, ◌*◌, ◌<◌, ◌≤◌, true, false, length, Some, None, IfOk, OnOk};
-ghost use Rattle.std.specs.Prelude.{OnErr, IsSome};
-ghost use Rattle.mf_edge.specs.MemoryStore.{new_store};
+ghost use Rattle.std.specs.Prelude.{OnErr, IsErr, IsSome, ◌↔◌, ◌++◌, ◌||◌, nat_lt, option_map};
+ghost use Rattle.mf_base.specs.Ascending.{cut_rows, joined, ascending};
+ghost use Rattle.mf_edge.specs.Device.{CountsOne};
+ghost use Rattle.mf_edge.specs.Spill.{IsNameOf, HasBytes, most_parts, part_limit};
+ghost use Rattle.mf_edge.specs.MemoryStore.{new_store, held, held_count, held_bytes, told, FailsNext, with_answer};
+ghost use Rattle.mf_edge.specs.MemoryStore.{with_failure, restarted, after_read, read_bytes, IsMadeIn, IsSetIn, IsGoneFrom};
 
 use crate::calls::Calls;
 use crate::memory_order::ordered;
@@ -90,7 +94,15 @@ impl Spill for MemSpill {
 
     ghost state = { told };
 
-    fn start(&mut self, dir: &str) -> Result<(), Failed> {
+    fn start(&mut self, dir: &str) -> Result<(), Failed>
+        requires short { length dir.now ≤ 4095 }
+        requires name { IsNameOf dir.now self.old.name }
+        ensures listed { IsErr result ↔ FailsNext self.old.calls }
+        ensures answered { OnOk result (self.new ≡ restarted dir.now true (with_answer self.old.calls) self.old) }
+        ensures refused { OnErr result (self.new ≡ restarted dir.now false (with_failure self.old.calls) self.old) }
+
+        ensures counts { self.old.calls.faults ≤ self.new.calls.faults }
+    {
         self.name.clear();
         self.name.put(dir.as_bytes());
         self.is_named = true;
@@ -104,7 +116,19 @@ impl Spill for MemSpill {
         Ok(())
     }
 
-    fn make(&mut self) -> Result<u32, Failed> {
+    fn make(&mut self) -> Result<u32, Failed>
+        requires started { self.old.is_started ≡ true }
+        requires few { held_count self.old.parts < most_parts }
+        ensures made { IfOk result (λ part. IsMadeIn part self.old.parts self.new.parts) }
+        ensures answered { OnOk result
+            (self.new ≡ record self.old { parts = self.new.parts; calls = with_answer self.old.calls }) }
+
+        // The listed calls fail. Want of memory is the only other cause.
+        ensures listed { FailsNext self.old.calls → IsErr result }
+        ensures refused { OnErr result (self.new ≡ record self.old { calls = with_failure self.old.calls }) }
+
+        ensures counts { self.old.calls.faults ≤ self.new.calls.faults }
+    {
         if self.calls.fails_now() {
             return Err(Failed);
         }
@@ -117,7 +141,29 @@ impl Spill for MemSpill {
         }
     }
 
-    fn append(&mut self, part: u32, bytes: &[u8]) -> Result<(), Failed> {
+    fn append(&mut self, part: u32, bytes: &[u8]) -> Result<(), Failed>
+        requires started { self.old.is_started ≡ true }
+        requires there { IsSome (held self.old.parts part) }
+        ensures put { OnOk result
+            (IsSetIn part (held_bytes self.old.parts part ++ bytes.now) self.old.parts self.new.parts) }
+        ensures answered { OnOk result
+            (self.new ≡ record self.old { parts = self.new.parts; calls = with_answer self.old.calls }) }
+
+        // The listed calls fail, and those past the limit. Want of memory is the only other cause.
+        ensures listed { FailsNext self.old.calls → IsErr result }
+        ensures past { part_limit < length (held_bytes self.old.parts part) + length bytes.now → IsErr result }
+        ensures same_bytes { OnErr result
+            (IsSetIn part (held_bytes self.old.parts part) self.old.parts self.new.parts) }
+        ensures refused { OnErr result
+            (self.new ≡ record self.old {
+              parts = self.new.parts;
+              calls = with_failure self.old.calls;
+              is_overrun = self.old.is_overrun
+                  || nat_lt part_limit (length (held_bytes self.old.parts part) + length bytes.now);
+            }) }
+
+        ensures counts { self.old.calls.faults ≤ self.new.calls.faults }
+    {
         let is_past = self.parts.bytes(part).len() + bytes.len() > PART_LIMIT;
         self.is_overrun = self.is_overrun || is_past;
         if self.calls.fails_now() {
@@ -137,7 +183,20 @@ impl Spill for MemSpill {
         at: u64,
         out: &mut [u8],
         steps: &mut Steps<L>,
-    ) -> Result<(), Failed> {
+    ) -> Result<(), Failed>
+        requires started { self.old.is_started ≡ true }
+        requires range { HasBytes (told self.old) part (at + length out.old) }
+        ensures read { OnOk result (out.new ≡ read_bytes self.old part at (length out.old)) }
+        ensures answered { OnOk result (self.new ≡ after_read (with_answer self.old.calls) self.old) }
+
+        // Just the listed calls fail.
+        ensures listed { IsErr result ↔ FailsNext self.old.calls }
+        ensures same_bytes { OnErr result (out.new ≡ out.old) }
+        ensures refused { OnErr result (self.new ≡ after_read (with_failure self.old.calls) self.old) }
+
+        ensures steps { steps.new ≡ steps.old + length out.old }
+        ensures counts { self.old.calls.faults ≤ self.new.calls.faults }
+    {
         steps.ticks(out.len() as u64);
         let zeros = !self.tells && self.until_zeros == 1;
         self.until_zeros = self.until_zeros.saturating_sub(1);
@@ -154,7 +213,23 @@ impl Spill for MemSpill {
         Ok(())
     }
 
-    fn order(&mut self, part: u32, width: u32) -> Result<(), Failed> {
+    fn order(&mut self, part: u32, width: u32) -> Result<(), Failed>
+        requires started { self.old.is_started ≡ true }
+        requires width { (1 ≤ width) × (width ≤ 39) }
+        requires rows { (n : ℕ) × ((told self.old).size part ≡ Some (width * n)) }
+        ensures ordered { OnOk result ((n : ℕ) → (told self.old).size part ≡ Some (width * n)
+            → IsSetIn part (joined (ascending (cut_rows width n (held_bytes self.old.parts part))))
+            self.old.parts self.new.parts) }
+        ensures answered { OnOk result
+            (self.new ≡ record self.old { parts = self.new.parts; calls = with_answer self.old.calls }) }
+
+        // The listed calls fail. Want of memory is the only other cause.
+        ensures listed { FailsNext self.old.calls → IsErr result }
+        ensures refused { OnErr result (self.new ≡ record self.old { calls = with_failure self.old.calls }) }
+
+        ensures same_size { option_map length (held self.new.parts part) ≡ option_map length (held self.old.parts part) }
+        ensures counts { self.old.calls.faults ≤ self.new.calls.faults }
+    {
         if self.calls.fails_now() {
             return Err(Failed);
         }
@@ -170,11 +245,22 @@ impl Spill for MemSpill {
         }
     }
 
-    fn forget(&mut self, part: u32) {
+    fn forget(&mut self, part: u32)
+        requires started { self.old.is_started ≡ true }
+        requires there { IsSome (held self.old.parts part) }
+        ensures gone { IsGoneFrom part self.old.parts self.new.parts }
+        ensures same { self.new ≡ record self.old { parts = self.new.parts } }
+    {
         self.parts.forget(part);
     }
 
-    fn damaged(&mut self) -> Failed {
+    fn damaged(&mut self) -> Failed
+        requires started { self.old.is_started ≡ true }
+        requires untold { self.old.tells ≡ false }
+        ensures failed { CountsOne self.old.calls.faults self.new.calls.faults }
+        ensures same { self.new ≡ record self.old { calls = record self.old.calls { faults = self.new.calls.faults } } }
+        ensures counts { self.old.calls.faults ≤ self.new.calls.faults }
+    {
         self.calls.count_fault();
         Failed
     }
