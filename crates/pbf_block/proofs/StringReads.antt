@@ -2,7 +2,7 @@
 use Rattle.std.proofs.Common.{◌≡◌, ◌∙◌, ◌∷◌, ◌++◌, ◌+◌, ◌-◌, ◌<◌, ◌≤◌, ℕ, suc, List, [], Bool, true, false, cond}
 use Rattle.std.proofs.Common.{Option, Some, None, Result, Ok, Err, ap, refl, sym, subst, inl, inr, length, take, drop}
 use Rattle.std.proofs.Common.{map, arith, append_assoc, length-append, append-nil, nat_lt}
-use Rattle.std.specs.Prelude.{OnOk, OnErr, is_some, option_map, slice_range, not, position}
+use Rattle.std.specs.Prelude.{OnOk, OnErr, option_map, slice_range, not, position}
 use Rattle.std.specs.Option.{option_or}
 use Rattle.std.specs.List.{prefix_len}
 use Rattle.std.specs.Str.{is_utf8}

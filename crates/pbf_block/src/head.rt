@@ -30,3 +30,53 @@ pub fn block_head(bytes: &[u8]) -> Result<BlockHead, BlockFault>
         }),
     }
 }
+
+#[cfg(test)]
+mod tests {
+    use super::{BlockHead, block_head};
+    use osm_model::faults::{BlockFault, MessageFault};
+
+    // A PrimitiveBlock, and its granularity, its offset in latitude and that in longitude.
+    const HEADS: [(&[u8], i64, i64, i64); 4] = [
+        // The defaults.
+        (b"", 100, 0, 0),
+        // Negative offsets in ten bytes, and a granularity.
+        (
+            b"\x88\x01\xE8\x07\x98\x01\xFB\xFF\xFF\xFF\xFF\xFF\xFF\xFF\xFF\x01\xA0\x01\x80\x80\x80\x80\x80\x80\x80\x80\x80\x01",
+            1000,
+            -5,
+            i64::MIN,
+        ),
+        // Of a number that comes twice the last counts; other fields are passed over.
+        (
+            b"\x88\x01\x01\x0A\x00\x12\x00\x90\x01\xE8\x07\x88\x01\x00",
+            0,
+            0,
+            0,
+        ),
+        // Fields of each type that are not read.
+        (
+            b"\xA8\x01\x05\xA9\x01\x00\x00\x00\x00\x00\x00\x00\x00\x98\x01\x07\xAA\x01\x01X\xAD\x01\x00\x00\x00\x00",
+            100,
+            7,
+            0,
+        ),
+    ];
+
+    #[test]
+    fn heads(rt: HostRuntime) {
+        for (bytes, granularity, lat_offset, lon_offset) in HEADS {
+            let want = BlockHead {
+                granularity,
+                lat_offset,
+                lon_offset,
+            };
+            assert_eq!(rt; block_head(bytes), Ok(want), "of {bytes:?}");
+        }
+        let twice = MessageFault::Twice { field: 1 };
+        assert_eq!(rt;
+            block_head(b"\x0A\x00\x0A\x00"),
+            Err(BlockFault::Wire(twice))
+        );
+    }
+}

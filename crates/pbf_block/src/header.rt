@@ -133,3 +133,121 @@ fn is_known(feature: &[u8]) -> bool
 {
     feature == b"OsmSchema-V0.6".as_slice() || feature == b"DenseNodes".as_slice()
 }
+
+#[cfg(test)]
+mod tests {
+    use super::read_header;
+    use mf_base::place::Rect;
+    use osm_model::faults::{BlockFault, MessageFault};
+
+    // A HeaderBlock, and its box or its fault.
+    const HEADERS: [(&[u8], Result<Option<Rect>, BlockFault>); 19] = [
+        // No bbox, and both features.
+        (b"\x22\x0EOsmSchema-V0.6\x22\x0ADenseNodes", Ok(None)),
+        // Nothing at all.
+        (b"", Ok(None)),
+        // Sides are cut towards zero.
+        (
+            b"\x0A\x0D\x08\x9D\x1F\x10\x9E\x1F\x18\xCF\x0F \xFD\x88z",
+            Ok(Some(Rect {
+                min_lat: -999,
+                min_lon: -1,
+                max_lat: -1,
+                max_lon: 1,
+            })),
+        ),
+        // The whole earth.
+        (
+            b"\x0A\x1C\x08\xFF\x9F\xB0\x8D\xBD\x0A\x10\x80\xA0\xB0\x8D\xBD\x0A\x18\x80\x90\xD8\xC6\x9E\x05 \xFF\x8F\xD8\xC6\x9E\x05",
+            Ok(Some(Rect {
+                min_lat: -90000000,
+                min_lon: -180000000,
+                max_lat: 90000000,
+                max_lon: 180000000,
+            })),
+        ),
+        // One nanodegree beyond, on each side.
+        (
+            b"\x0A\x0D\x08\x81\xA0\xB0\x8D\xBD\x0A\x10\x00\x18\x00 \x00",
+            Err(BlockFault::BadBox),
+        ),
+        (
+            b"\x0A\x0D\x08\x00\x10\x82\xA0\xB0\x8D\xBD\x0A\x18\x00 \x00",
+            Err(BlockFault::BadBox),
+        ),
+        (
+            b"\x0A\x0D\x08\x00\x10\x00\x18\x82\x90\xD8\xC6\x9E\x05 \x00",
+            Err(BlockFault::BadBox),
+        ),
+        (
+            b"\x0A\x0D\x08\x00\x10\x00\x18\x00 \x81\x90\xD8\xC6\x9E\x05",
+            Err(BlockFault::BadBox),
+        ),
+        // Sides that cross.
+        (
+            b"\x0A\x08\x08\x02\x10\x00\x18\x00 \x00",
+            Err(BlockFault::BadBox),
+        ),
+        (
+            b"\x0A\x08\x08\x00\x10\x00\x18\x00 \x02",
+            Err(BlockFault::BadBox),
+        ),
+        // A side is wanting.
+        (b"\x0A\x06\x08\x00\x10\x00\x18\x00", Err(BlockFault::BadBox)),
+        // Of a side that comes twice the last counts.
+        (
+            b"\x0A\x0D\x08\x90N\x10\x90N\x18\x00 \x00\x08\xA0\x1F",
+            Ok(Some(Rect {
+                min_lat: 0,
+                min_lon: 2,
+                max_lat: 0,
+                max_lon: 5,
+            })),
+        ),
+        // A feature that is not known; a bad box comes before.
+        (
+            b"\x22\x15HistoricalInformation",
+            Err(BlockFault::RequiredFeature),
+        ),
+        (
+            b"\x22\x0ADenseNodes\x22\x09DenseNode",
+            Err(BlockFault::RequiredFeature),
+        ),
+        (
+            b"\x22\x01X\x0A\x08\x08\x02\x10\x00\x18\x00 \x00",
+            Err(BlockFault::BadBox),
+        ),
+        // A fault of the bbox as a message comes before.
+        (
+            b"\x22\x01X\x0A\x02\x0A\x00",
+            Err(BlockFault::Wire(MessageFault::Form { field: 1 })),
+        ),
+        // A fault of the HeaderBlock comes first.
+        (
+            b"\x0A\x02\x0A\x00\x0A\x00",
+            Err(BlockFault::Wire(MessageFault::Twice { field: 1 })),
+        ),
+        // Fields that are not read, of each type.
+        (
+            b"H\x05Q\x00\x00\x00\x00\x00\x00\x00\x00\x82\x01\x06writer]\x00\x00\x00\x00",
+            Ok(None),
+        ),
+        // The same in a bbox.
+        (
+            b"\x0A\x1B(\x05\x08\x00\x10\x00)\x00\x00\x00\x00\x00\x00\x00\x00\x18\x00 \x00*\x01X-\x00\x00\x00\x00",
+            Ok(Some(Rect {
+                min_lat: 0,
+                min_lon: 0,
+                max_lat: 0,
+                max_lon: 0,
+            })),
+        ),
+    ];
+
+    #[test]
+    fn headers(rt: HostRuntime) {
+        for (bytes, want) in HEADERS {
+            assert_eq!(rt; read_header(bytes), want, "of {bytes:?}");
+        }
+    }
+}

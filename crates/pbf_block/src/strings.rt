@@ -211,3 +211,114 @@ fn key_size(bytes: &[u8]) -> usize
         Err(_) => 0,
     }
 }
+
+#[cfg(test)]
+mod tests {
+    use super::Strings;
+    use osm_model::faults::{BlockFault, MessageFault};
+    use std::alloc::{AllocError, Global};
+    use std::test::Fail;
+
+    // Three strings, of which the last has a longer key and length; a field of the table that is not read stands between.
+    const BLOCK: &[u8] =
+        b"\x88\x01\x05\x0A\x10\x0A\x00\x0A\x04name\x12\x01X\x8A\x00\x81\x00A\x12\x00";
+
+    // One string, among fields of each type that are not read.
+    const ONE: &[u8] =
+        b"\x0A\x17\x10\x05\x11\x00\x00\x00\x00\x00\x00\x00\x00\x12\x01X\x0A\x02\xC3\xA4\x15\x00\x00\x00\x00";
+
+    // A PrimitiveBlock, and its first fault up to its strings.
+    const FAULTS: [(&[u8], BlockFault); 5] = [
+        // No StringTable.
+        (b"\x12\x00", BlockFault::NoStrings),
+        // A fault of the block comes before, and one of the table.
+        (
+            b"\x10\x01",
+            BlockFault::Wire(MessageFault::Form { field: 2 }),
+        ),
+        (
+            b"\x0A\x02\x08\x01",
+            BlockFault::Wire(MessageFault::Form { field: 1 }),
+        ),
+        // A fault of the table before an entry that is no UTF-8.
+        (
+            b"\x0A\x05\x0A\x01\xFF\x08\x01",
+            BlockFault::Wire(MessageFault::Form { field: 1 }),
+        ),
+        // The first entry that is no UTF-8.
+        (
+            b"\x0A\x0C\x0A\x00\x0A\x02\xC3\xA4\x0A\x01\xC3\x0A\x01\xFF",
+            BlockFault::NotText { index: 2 },
+        ),
+    ];
+
+    #[test]
+    fn strings(rt: HostRuntime) -> Result<(), Fail> {
+        let mut strings = Strings::new(rt.alloc())?;
+        assert_eq!(rt; strings.index(BLOCK), Ok(()));
+        assert_eq!(rt; strings.count(), 3);
+        assert_eq!(rt; strings.places(), [6, 8, 18].as_slice());
+        assert_eq!(rt; strings.get(BLOCK, 0), Some(b"".as_slice()));
+        assert_eq!(rt; strings.get(BLOCK, 1), Some(b"name".as_slice()));
+        assert_eq!(rt; strings.get(BLOCK, 2), Some(b"A".as_slice()));
+        assert_eq!(rt; strings.get(BLOCK, 3), None);
+        assert_eq!(rt; strings.get(BLOCK, u64::MAX), None);
+        assert_eq!(rt; strings.index(ONE), Ok(()));
+        assert_eq!(rt; strings.count(), 1);
+        assert_eq!(rt; strings.get(ONE, 0), Some("ä".as_bytes()));
+        assert_eq!(rt; strings.get(ONE, 1), None);
+        Ok(())
+    }
+
+    #[test]
+    fn refusals(rt: HostRuntime) -> Result<(), Fail> {
+        let mut strings = Strings::new(rt.alloc())?;
+        for (block, fault) in FAULTS {
+            assert_eq!(rt; strings.index(BLOCK), Ok(()));
+            assert!(rt; block.len() < 100);
+            assert_eq!(rt; strings.index(block), Err(fault), "of {block:?}");
+            assert_eq!(rt; strings.count(), 0);
+        }
+        Ok(())
+    }
+
+    // A block of a StringTable under this key and length, which has so many empty entries, and then these bytes.
+    fn table_of(
+        alloc: Global,
+        front: &[u8],
+        count: u32,
+        last: &[u8],
+    ) -> Result<Vec<u8>, AllocError> {
+        let mut block = Vec::new(alloc);
+        block.extend_from_slice(front)?;
+        for _ in 0..count {
+            block.extend_from_slice(b"\x0A\x00")?;
+        }
+        block.extend_from_slice(last)?;
+        Ok(block)
+    }
+
+    #[test]
+    fn the_most_strings(rt: HostRuntime) -> Result<(), Fail> {
+        let mut strings = Strings::new(rt.alloc())?;
+        let most = table_of(rt.alloc(), b"\x0A\x81\x80\x80\x04", 4194303, b"\x0A\x01A")?;
+        assert!(rt; most.len() < 10000000);
+        assert_eq!(rt; strings.index(&most), Ok(()));
+        assert_eq!(rt; strings.count(), 4194304);
+        assert_eq!(rt; strings.places().get(4194302).copied(), Some(8388610));
+        assert_eq!(rt; strings.places().get(4194303).copied(), Some(8388612));
+        assert!(rt; strings.get(&most, 4194303).is_some());
+        assert!(rt; strings.get(&most, 4194304).is_none());
+        // One more is refused, before it is seen to be no UTF-8.
+        let more = table_of(
+            rt.alloc(),
+            b"\x0A\x83\x80\x80\x04",
+            4194304,
+            b"\x0A\x01\xFF",
+        )?;
+        assert!(rt; more.len() < 10000000);
+        assert_eq!(rt; strings.index(&more), Err(BlockFault::TooManyStrings));
+        assert_eq!(rt; strings.count(), 0);
+        Ok(())
+    }
+}
