@@ -4,3 +4,4 @@ pub mod UnitLaws
 pub mod Parts
 pub mod PartsAgain
 pub mod TextsTold
+pub mod HeadUnits

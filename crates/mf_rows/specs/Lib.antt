@@ -7,3 +7,4 @@ pub mod Spelled
 pub mod Laws
 pub mod Units
 pub mod Records
+pub mod Heads

@@ -11,6 +11,8 @@
 pub mod cursors;
 mod fields;
 pub mod head;
+pub mod head_units;
+mod heads;
 pub mod kind;
 pub mod kinds;
 pub mod laws;
