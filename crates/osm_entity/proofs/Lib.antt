@@ -1,0 +1,5 @@
+pub mod OrderReads
+pub mod BlockTexts
+pub mod MessageParts
+pub mod SumReads
+pub mod TagReads

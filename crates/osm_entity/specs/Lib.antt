@@ -1,0 +1,5 @@
+pub mod Answers
+pub mod InBlock
+pub mod Order
+pub mod Sums
+pub mod TagChecks
