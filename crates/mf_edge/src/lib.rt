@@ -2,8 +2,8 @@
 //!
 //! Read `source` and `sink` first, then `put` and `stream`; then `spill`, a store of parts, whose reading is counted in
 //! `steps`, and `shelf`, a file that is opened by its name. The devices in memory are in `memory` (with `calls` and
-//! `pieces`), `memory_spill` (with `memory_parts` and `memory_order`) and `memory_shelf`, those over readers and writers
-//! of std in `adapters`, and that over its files in `file_shelf`. `count` is a number that only clauses see.
+//! `pieces`), `memory_spill` (with `memory_parts` and `memory_order`) and `memory_shelf`, those over readers and
+//! writers of std in `adapters`, and that over its files in `file_shelf`. `count` is a number that only clauses see.
 #![tactic(auto)]
 
 mod adapters;

@@ -45,8 +45,8 @@ impl Model for MemShelf {
 }
 
 impl MemShelf {
-    /// `name` is that of the file that is held. `piece` is the most bytes that one read gives. `fails` has the numbers of
-    /// the calls that fail, counted from 1.
+    /// `name` is that of the file that is held. `piece` is the most bytes that one read gives. `fails` has the numbers
+    /// of the calls that fail, counted from 1.
     pub fn new(
         alloc: Global,
         name: &str,

@@ -6,7 +6,8 @@ ghost use Rattle.mf_base.specs.Ascending.{cut_rows, joined, ascending};
 ghost use Rattle.mf_edge.specs.Device.{CountsOne};
 ghost use Rattle.mf_edge.specs.Spill.{IsNameOf, HasBytes, most_parts, part_limit};
 ghost use Rattle.mf_edge.specs.MemoryStore.{new_store, held, held_count, held_bytes, told, FailsNext, with_answer};
-ghost use Rattle.mf_edge.specs.MemoryStore.{with_failure, restarted, after_read, read_bytes, IsMadeIn, IsSetIn, IsGoneFrom};
+ghost use Rattle.mf_edge.specs.MemoryStore.{with_failure, restarted, after_read, read_bytes};
+ghost use Rattle.mf_edge.specs.MemoryStore.{IsMadeIn, IsSetIn, IsGoneFrom};
 
 use crate::calls::Calls;
 use crate::memory_order::ordered;
