@@ -1,12 +1,15 @@
 //! The entities of a block, one after another, or the first fault.
 //!
 //! `order` keeps which entity may stand next; `in_block` is what the entities of a block share, and `tags` reads their
-//! keys and values.
+//! keys and values. `node` reads a plain node, and `place` its place.
 #![tactic(auto)]
 
 mod in_block;
+mod node;
+pub mod node_view;
 pub mod order;
 mod parts;
+mod place;
 mod tags;
 
 pub use osm_model::faults::EntityFault;
