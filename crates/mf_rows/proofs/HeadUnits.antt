@@ -1,5 +1,5 @@
 -- The units of a head by their places.
-use Rattle.std.proofs.Common.{◌≡◌, ℕ, suc, zero, ◌+◌, ◌-◌, ◌*◌, ◌≤◌, List, refl, ap, sym, ◌∙◌, arith}
+use Rattle.std.proofs.Common.{◌≡◌, ℕ, suc, ◌+◌, ◌-◌, ◌*◌, ◌≤◌, List, refl, ap, sym, ◌∙◌, arith}
 use Rattle.std.proofs.Common.{Bool, true, false, [], ◌∷◌, ◌++◌, length, drop, Some, None}
 use Rattle.std.proofs.lemmas.List.{drop_all, append-nil}
 use Rattle.mf_rows.specs.Units.{Unit16}
@@ -36,7 +36,8 @@ two-kept a b zeros mid new long first last =
 
 -- what units tell where they are those of a head, and where they are not
 module _ (units : List Unit16) (f s t : Unit16) (m : List Unit16) (h : Head) (texts : TextLengths)
-    (is : units ≡ f ∷ s ∷ t ∷ m) (head-is : h ≡ (told_by f s t m).head) (texts-are : texts ≡ (told_by f s t m).texts) where
+    (is : units ≡ f ∷ s ∷ t ∷ m) (head-is : h ≡ (told_by f s t m).head)
+    (texts-are : texts ≡ (told_by f s t m).texts) where
   same-told : ◌≡◌ {A = HeadTold} (record { head = h; texts = texts }) (told_by f s t m)
   same-told = rw (head-is, texts-are) refl
 

@@ -5,3 +5,5 @@ pub mod Parts
 pub mod PartsAgain
 pub mod TextsTold
 pub mod HeadUnits
+pub mod Walked
+pub mod ToldLaws

@@ -8,3 +8,5 @@ pub mod Laws
 pub mod Units
 pub mod Records
 pub mod Heads
+pub mod RecordUnits
+pub mod Told

@@ -18,6 +18,7 @@ pub mod kinds;
 pub mod laws;
 mod row_kinds;
 pub mod rows;
+mod told;
 pub mod units;
 pub mod view;
 

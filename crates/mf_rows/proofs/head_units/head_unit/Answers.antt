@@ -1,5 +1,5 @@
-use Rattle.std.proofs.Common.{rules, ◌≡◌, ◌≤◌, ◌+◌, ◌-◌, ◌*◌, arith}
-use Rattle.mf_rows.specs.Heads.{id_unit, marks_unit, lengths_unit, kept_unit}
+use Rattle.std.proofs.Common.{rules, ◌≡◌, ◌≤◌, ◌+◌, ◌-◌, ◌*◌}
+use Rattle.mf_rows.specs.Heads.{kept_unit}
 use Rattle.mf_rows.proofs.HeadUnits.{first-unit, second-unit, third-unit, later-unit}
 use Rattle.mf_rows.proofs.head_units.head_unit.Goals as goal
 
