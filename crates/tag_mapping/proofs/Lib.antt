@@ -5,3 +5,9 @@ pub mod Adding
 pub mod Lists
 pub mod Document
 pub mod OneWord
+pub mod Looking
+pub mod Keeping
+pub mod Texts
+pub mod Growing
+pub mod Knowing
+pub mod Looked

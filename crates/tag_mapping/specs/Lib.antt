@@ -1,3 +1,5 @@
 pub mod File
 pub mod Shown
 pub mod Kept
+pub mod Choices
+pub mod Choosing

@@ -1,7 +1,7 @@
 //! A list of a mapping: its entries in order, and found by `KEY=VALUE`.
 
 ghost use Rattle.std.specs.Prelude.{◌≡◌, ◌+◌, ◌^◌, ◌<◌, ◌≤◌, true, false, ◌++◌, ◌∷◌, [], length, option_map, IfSome};
-ghost use Rattle.std.specs.Prelude.{IfOk, IfErr, OnErr, OnOk, Ok, slice_get, slice_index_or};
+ghost use Rattle.std.specs.Prelude.{IfOk, IfErr, OnErr, OnOk, Ok, None, Some, ℕ, slice_get, slice_index_or};
 ghost use Rattle.mf_base.specs.Buffer.{HasRoom, AppendsTo};
 ghost use Rattle.mf_base.specs.Spelling.{string};
 ghost use Rattle.mf_base.specs.Words.{equals};
@@ -10,10 +10,13 @@ ghost use Rattle.feature_model.specs.Mapping.{Entry};
 ghost use Rattle.feature_model.specs.Entries.{entry_behind, is_there};
 ghost use Rattle.map_model.specs.TagLists.{entry_text};
 ghost use Rattle.tag_mapping.specs.Shown.{told_shown, IsFaultOf};
+ghost use Rattle.tag_mapping.specs.Choosing.{parts_shown};
 
 use crate::MappingFault;
+use crate::matched::Parts;
 use crate::rules::{keeps_entry_rule, keeps_kind_rule};
 use crate::told::Told;
+use arrayvec::ArrayVec;
 use indexmap::IndexMap;
 use mf_base::kind::List;
 use mf_base::out_buf::OutBuf;
@@ -111,6 +114,32 @@ impl Entries {
         self.found.get_index_of(text).is_some()
     }
 
+    /// The index of the entry with this key and value, where there is one.
+    pub(crate) fn index_of(&self, key: &[u8], value: &[u8]) -> Option<usize>
+        ensures within { IfSome result (λ index. index < length self.now) }
+        ensures found { (index : ℕ) (e : Entry) → slice_get self.now index ≡ Some e → e.key ≡ key.now
+            → e.value ≡ value.now → result ≡ Some index }
+    {
+        let found = &self.found;
+        let text = short_text(key, value)?;
+        found.get_index_of(text.as_slice())
+    }
+
+    /// An entry.
+    pub(crate) fn parts(&self, index: usize) -> Parts<'_>
+        requires { index < length self.now }
+        ensures { slice_get self.now index ≡ Some (parts_shown result) }
+    {
+        let (text, traits) = self.found.get_index(index).unwrap();
+        Parts {
+            key: &text[..traits.key_size],
+            value: &text[traits.key_size + 1..],
+            zoom: traits.zoom,
+            water: traits.water,
+            label: traits.label,
+        }
+    }
+
     // Puts a new entry behind the others, unless memory is wanting.
     fn insert(&mut self, text: Vec<u8>, told: &Told) -> bool
         requires text { text.items ≡ entry_text (told_shown told.now) }
@@ -190,6 +219,18 @@ fn string_size(text: &[u8]) -> u32
     ensures most { result ≤ 521 }
 {
     size_vbe_u(text.len() as u64) + text.len() as u32
+}
+
+// The text `KEY=VALUE`, where it is as short as that of an entry.
+fn short_text(key: &[u8], value: &[u8]) -> Option<ArrayVec<u8, 511>>
+    ensures text { IfSome result (λ text. text.items ≡ key.now ++ equals ∷ value.now) }
+    ensures long { result ≡ None → 511 < length key.now + 1 + length value.now }
+{
+    let mut text = ArrayVec::new();
+    text.try_extend_from_slice(key).ok()?;
+    text.try_push(b'=').ok()?;
+    text.try_extend_from_slice(value).ok()?;
+    Some(text)
 }
 
 // The text `KEY=VALUE`.
