@@ -1,9 +1,9 @@
 -- The intervals with their sub-files, one after another.
-use Rattle.std.proofs.Common.{◌≡◌, ℕ, zero, suc, ◌+◌, ◌*◌, ◌<◌, ◌≤◌, List, [], ◌∷◌, ◌++◌, length, take, map, get_or}
+use Rattle.std.proofs.Common.{◌≡◌, ℕ, zero, suc, ◌+◌, ◌<◌, ◌≤◌, List, [], ◌∷◌, ◌++◌, length, take, map, get_or}
 use Rattle.std.proofs.Common.{refl, sym, ap, ◌∙◌, arith}
 use Rattle.std.proofs.Common.{append_assoc, append-nil}
 use Rattle.std.specs.Prelude.{flat_map, zip}
-use Rattle.mf_base.specs.Buffer.{Buffer, HasRoom, AppendsTo}
+use Rattle.mf_base.specs.Buffer.{Buffer, AppendsTo}
 use Rattle.mf_base.specs.declared.tile.Interval.{Interval}
 use Rattle.map_model.specs.Header.{interval_bytes}
 use Rattle.map_header.specs.declared.sub_file.SubFile.{SubFile}

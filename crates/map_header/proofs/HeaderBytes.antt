@@ -1,10 +1,10 @@
 -- The bytes of the whole header, part by part.
-use Rattle.std.proofs.Common.{◌≡◌, ℕ, ◌+◌, ◌-◌, ◌*◌, ◌<◌, ◌≤◌, List, [], ◌∷◌, ◌++◌, length, map, refl, sym, ap, ◌∙◌}
+use Rattle.std.proofs.Common.{◌≡◌, ℕ, ◌+◌, ◌-◌, ◌*◌, ◌≤◌, List, [], ◌∷◌, ◌++◌, length, refl, sym, ap, ◌∙◌}
 use Rattle.std.proofs.Common.{arith}
 use Rattle.std.proofs.Common.{append_assoc, append-nil, length-append, add-zero}
 use Rattle.std.specs.Prelude.{flat_map, zip, sum_by, IsTrue}
 use Rattle.mf_base.specs.Buffer.{Buffer, AppendsTo}
-use Rattle.mf_base.specs.Spelling.{vbe_unsigned, big_endian, string}
+use Rattle.mf_base.specs.Spelling.{big_endian, string}
 use Rattle.mf_base.specs.declared.place.Rect.{Rect}
 use Rattle.mf_base.specs.declared.tile.Interval.{Interval}
 use Rattle.map_model.specs.Intervals.{are_intervals}

@@ -1,9 +1,9 @@
 -- Parts that are put one after another.
-use Rattle.std.proofs.Common.{◌≡◌, ℕ, zero, suc, ◌+◌, ◌-◌, ◌*◌, ◌<◌, ◌≤◌, List, [], ◌∷◌, ◌++◌, length, refl, sym, ap}
-use Rattle.std.proofs.Common.{◌∙◌, arith, append_assoc, append-nil, length-append, true, false, Some, None}
-use Rattle.std.specs.Prelude.{ℤ, Option, option_map, flat_map, zip, map}
-use Rattle.mf_base.specs.Buffer.{Buffer, HasRoom, AppendsTo}
-use Rattle.mf_base.specs.Spelling.{vbe_unsigned, big_endian, string}
+use Rattle.std.proofs.Common.{◌≡◌, ℕ, ◌+◌, List, [], ◌++◌, length, refl, sym, ap}
+use Rattle.std.proofs.Common.{append_assoc, append-nil, length-append}
+use Rattle.std.specs.Prelude.{ℤ}
+use Rattle.mf_base.specs.Buffer.{Buffer, AppendsTo}
+use Rattle.mf_base.specs.Spelling.{vbe_unsigned, string}
 use Rattle.mf_base.proofs.ByteLaws.{length-big_endian}
 use Rattle.map_model.specs.Header.{be_signed}
 

@@ -1,6 +1,5 @@
 -- What the definitions of the header call the settings, tags and sub-files of the code.
-use Rattle.std.specs.Prelude.{ℕ, ◌+◌, List, ◌++◌, length, Option, option_map, map}
-use Rattle.arrayvec.specs.declared.array_string.ArrayString.{ArrayString}
+use Rattle.std.specs.Prelude.{ℕ, ◌+◌, List, ◌++◌, length, option_map}
 use Rattle.mf_base.specs.declared.kind.List as kinds
 use Rattle.mf_base.specs.declared.kind.List.TheVariants.{Poi, Way}
 use Rattle.map_model.specs.TagLists.{TagLists}

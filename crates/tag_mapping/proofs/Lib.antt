@@ -11,3 +11,4 @@ pub mod Texts
 pub mod Growing
 pub mod Knowing
 pub mod Looked
+pub mod ShortTexts

@@ -174,7 +174,7 @@ impl Entries {
     pub fn tag_size(&self, index: usize) -> u32
         requires { index < length self.now }
         ensures size { IfSome (slice_get self.now index) (λ (e : Entry). result ≡ length (string (entry_text e))) }
-        ensures most { result ≤ 521 }
+        ensures most { result ≤ 513 }
     {
         string_size(self.text(index))
     }
@@ -216,7 +216,7 @@ fn put_string(out: &mut OutBuf, text: &[u8])
 fn string_size(text: &[u8]) -> u32
     requires { length text.now ≤ 511 }
     ensures size { result ≡ length (string text.now) }
-    ensures most { result ≤ 521 }
+    ensures most { result ≤ 513 }
 {
     size_vbe_u(text.len() as u64) + text.len() as u32
 }

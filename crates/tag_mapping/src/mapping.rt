@@ -71,7 +71,7 @@ impl Mapping {
         requires { index < length (entries_of self.now list) }
         ensures size { IfSome (slice_get (entries_of self.now list) index)
             (λ (e : Entry). result ≡ length (string (entry_text e))) }
-        ensures most { result ≤ 521 }
+        ensures most { result ≤ 513 }
     {
         self.entries(list).tag_size(index as usize)
     }

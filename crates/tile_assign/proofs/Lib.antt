@@ -1,3 +1,7 @@
 pub mod Bits
 pub mod Common
 pub mod Listed
+pub mod OnEarth
+pub mod Growing
+pub mod Meeting
+pub mod Drawn

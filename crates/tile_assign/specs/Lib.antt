@@ -1,1 +1,2 @@
 pub mod ListedIntervals
+pub mod Shapes

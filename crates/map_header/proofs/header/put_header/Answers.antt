@@ -1,4 +1,4 @@
-use Rattle.std.proofs.Common.{◌≡◌, ◌∙◌, List, length, map, ap, arith}
+use Rattle.std.proofs.Common.{◌∙◌, List, length, map, ap, arith}
 use Rattle.std.specs.Prelude.{flat_map, zip}
 use Rattle.std.proofs.lemmas.List.{length-map}
 use Rattle.mf_base.specs.Buffer.{Buffer}

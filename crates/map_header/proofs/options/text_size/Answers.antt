@@ -1,4 +1,4 @@
-use Rattle.std.proofs.Common.{◌≡◌, ◌∙◌, ℕ, ap, arith, length}
+use Rattle.std.proofs.Common.{ℕ, ap, arith, length}
 use Rattle.mf_base.specs.Spelling.{vbe_unsigned}
 use Rattle.map_header.proofs.Putting.{length-string}
 use Rattle.map_header.proofs.options.text_size.Goals as goal
