@@ -7,3 +7,4 @@ pub mod TextsTold
 pub mod HeadUnits
 pub mod Walked
 pub mod ToldLaws
+pub mod KeptLaws

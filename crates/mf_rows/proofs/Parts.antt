@@ -36,7 +36,7 @@ pub record FirstPart (role : Role) (points : ℕ) (units : List Unit16) (all : O
   pub rest : IsSome (parts_in (drop points units))
   pub all_is : all ≡ option_map (with_part role (take points units)) (parts_in (drop points units))
 
-some_of_map : {A B : Type 0} (f : A → B) (x : Option A) → IsSome (option_map f x) → IsSome x
+pub some_of_map : {A B : Type 0} (f : A → B) (x : Option A) → IsSome (option_map f x) → IsSome x
 some_of_map f None some = some
 some_of_map f (Some x) some = refl
 

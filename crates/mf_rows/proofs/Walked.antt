@@ -37,4 +37,5 @@ module _ (first : Unit16) (rest : List Unit16) where
 
 -- no units are no parts
 pub none-is-some : (units : List Unit16) → length units ≡ 0 → true ≡ is_some (parts_in units)
-none-is-some units empty = sym (ap (λ us. is_some (parts_in us)) (nil_from_length units empty) ∙ ap is_some parts_in-none)
+none-is-some units empty =
+    sym (ap (λ us. is_some (parts_in us)) (nil_from_length units empty) ∙ ap is_some parts_in-none)

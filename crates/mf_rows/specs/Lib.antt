@@ -10,3 +10,4 @@ pub mod Records
 pub mod Heads
 pub mod RecordUnits
 pub mod Told
+pub mod Desks

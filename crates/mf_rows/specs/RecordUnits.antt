@@ -1,5 +1,5 @@
--- The units of a record, and the record that units spell: this project's profile, on row kinds. A record's units stand in
--- the order head, texts by their slots, then the unit of each part and of its points; a node has its one point there.
+-- The units of a record, and the record that units spell: this project's profile, on row kinds. A record's units stand
+-- in the order head, texts by their slots, then the unit of each part and of its points; a node has its point there.
 use Rattle.std.specs.Prelude.{ℕ, ◌+◌, ◌*◌, ◌/◌, nat_le, nat_eq, is_some, Bool, true, List, [], ◌∷◌, ◌++◌}
 use Rattle.std.specs.Prelude.{length, take, drop, map, flat_map, replicate, bytes_eq, if◌then◌else◌, ◌&&◌}
 use Rattle.std.specs.Prelude.{Option, Some, None, unwrap_or}
@@ -62,6 +62,20 @@ drawn_units EntityKind.Node None all = []
 drawn_units EntityKind.Node (Some p) all = point_unit p ∷ []
 drawn_units EntityKind.Way spot all = parts_units all
 drawn_units EntityKind.Relation spot all = parts_units all
+
+-- how many points a node has
+abbrev pub spot_count : Option Point → ℕ
+spot_count None = 0
+spot_count (Some p) = 1
+
+-- how many units parts have
+abbrev pub parts_count : List Part → ℕ
+parts_count [] = 0
+parts_count (p ∷ parts) = 1 + length p.points + parts_count parts
+
+-- The units of a record: ten for its head, one for each begun 16 bytes of its texts, one for each part and each point.
+abbrev pub unit_count : Record → ℕ
+unit_count r = 10 + units_for (length (text_bytes r.texts)) + spot_count r.spot + parts_count r.parts
 
 -- The units of a record.
 unfoldable pub units_of : Record → List Unit16

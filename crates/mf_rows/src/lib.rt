@@ -9,6 +9,7 @@
 #![tactic(auto)]
 
 pub mod cursors;
+pub mod desk;
 mod fields;
 pub mod head;
 pub mod head_units;
@@ -16,6 +17,7 @@ mod heads;
 pub mod kind;
 pub mod kinds;
 pub mod laws;
+pub mod records;
 mod row_kinds;
 pub mod rows;
 mod told;

@@ -1,7 +1,7 @@
 //! Records, read of their units.
 
-ghost use Rattle.std.specs.Prelude.{◌≡◌, ◌+◌, ◌*◌, ◌≤◌, ◌<◌, [], ◌∷◌, ◌++◌, ℕ, List, true, false, length, take, drop, option_map, is_some};
-ghost use Rattle.std.specs.Prelude.{IsSome, IfSome, IsNone, Some, None, OnSome};
+ghost use Rattle.std.specs.Prelude.{◌≡◌, ◌+◌, ◌*◌, ◌≤◌, ◌<◌, ◌∷◌, ◌++◌, ℕ, List, false, length, drop, is_some};
+ghost use Rattle.std.specs.Prelude.{IfSome, IsNone, Some, None};
 ghost use Rattle.std.specs.List.{list_all};
 ghost use Rattle.mf_base.specs.declared.kept.Kept.{Kept as KeptRead};
 ghost use Rattle.mf_rows.specs.Units.{parts_in};
@@ -18,15 +18,23 @@ use crate::head_units::TextLengths;
 use crate::heads::read_head;
 use crate::units::{part_unit, read_part_unit};
 use arrayvec::ArrayVec;
-use mf_base::kept::{Kept, KeptValue};
+use mf_base::kept::{Kept as KeptTag, KeptValue};
 use mf_base::kind::{EntityKind, Role};
 
-/// What a desk keeps of a record: its head, where its texts stand, and how many units these take.
+/// What a desk keeps of a record: its head, the lengths of its texts, and how many units these take.
 #[derive(Drop)]
 pub struct Told {
     pub head: Head,
-    pub spans: ArrayVec<TextSpan, 18>,
+    pub lengths: TextLengths,
     pub texts: usize,
+}
+
+/// The same, with the place of its first unit, and how many units it has.
+#[derive(Drop)]
+pub struct Kept {
+    pub told: Told,
+    pub first: usize,
+    pub count: usize,
 }
 
 /// What units tell, where they spell a record.
@@ -50,12 +58,12 @@ fn told_of(head: Head, texts: TextLengths, units: &[[u8; 16]]) -> Option<Told>
     ensures some { IfSome result
         (λ t. IsTold t units.now (record_behind units.now (Some (record { head = head; texts = texts })))) }
 {
-    let Laid { spans, size } = laid_texts(&head, texts);
-    if is_behind(&head, texts, size as usize, units) {
+    let size = laid_texts(&head, texts).size as usize;
+    if is_behind(&head, texts, size, units) {
         Some(Told {
             head,
-            spans,
-            texts: (size as usize + 15) / 16,
+            lengths: texts,
+            texts: (size + 15) / 16,
         })
     } else {
         None
@@ -138,11 +146,11 @@ fn is_drawn(kind: EntityKind, units: &[[u8; 16]]) -> bool
     }
 }
 
-// Where the texts of a record stand, and how many bytes they take.
+/// Where the texts of a record stand, and how many bytes they take.
 #[derive(Drop)]
-struct Laid {
-    spans: ArrayVec<TextSpan, 18>,
-    size: u32,
+pub struct Laid {
+    pub spans: ArrayVec<TextSpan, 18>,
+    pub size: u32,
 }
 
 // Whether each text has a length that a text may have.
@@ -153,7 +161,7 @@ fn are_sizes(head: &Head, texts: TextLengths) -> bool
 }
 
 // The same of tags.
-fn tags_fit(tags: &[Kept]) -> bool
+fn tags_fit(tags: &[KeptTag]) -> bool
     ensures { result ≡ list_all (λ (k : KeptRead). is_size k.value) tags.now }
 {
     tags.iter().all(|kept| fits(kept.value))
@@ -198,8 +206,8 @@ fn lay(laid: &mut Laid, slot: TextSlot, len: u16)
     laid.size += u32::from(len);
 }
 
-// Where the texts of a head stand, one after another.
-fn laid_texts(head: &Head, texts: TextLengths) -> Laid
+/// Where the texts of a head stand, one after another.
+pub fn laid_texts(head: &Head, texts: TextLengths) -> Laid
     ensures spans { result.spans.items ≡ spans_from 0 (slot_sizes (record { head = head.now; texts = texts })) }
     ensures size { result.size ≡ sizes_total (slot_sizes (record { head = head.now; texts = texts })) }
     ensures most { result.size ≤ 65535 * 18 }
@@ -216,7 +224,7 @@ fn laid_texts(head: &Head, texts: TextLengths) -> Laid
 }
 
 // Puts the texts of tags behind the others.
-fn lay_tags(laid: &mut Laid, tags: &[Kept])
+fn lay_tags(laid: &mut Laid, tags: &[KeptTag])
     requires few { length tags.now ≤ 15 }
     requires room { array_vec_len laid.old.spans ≤ 3 }
     requires small { laid.old.size ≤ 65535 * 3 }

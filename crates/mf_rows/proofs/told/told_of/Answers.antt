@@ -11,7 +11,7 @@ returns-then-is_behind-clause-some c =
     told-is t c.args.units.now
     (record {
       head = c.args.head;
-      spans = c.laid_texts-spans.result.spans;
-      texts = (c.laid_texts-spans.result.size + 15) / 16;
-    }) few refl c.laid_texts-spans.ensures.spans
-    (ap units_for c.laid_texts-spans.ensures.size) (sym c.is_behind.ensures ∙ c.if-is_behind.true)
+      lengths = c.args.texts;
+      texts = (c.laid_texts-size.result.size + 15) / 16;
+    }) c.told-units few refl refl
+    (ap units_for c.laid_texts-size.ensures.size) (sym c.is_behind.ensures ∙ c.if-is_behind.true)
