@@ -1,7 +1,11 @@
 pub mod NodeReads
 pub mod OrderReads
 pub mod BlockTexts
+pub mod DenseNext
+pub mod DenseReads
 pub mod MessageParts
 pub mod PlaceReads
+pub mod RunEnds
+pub mod RunReads
 pub mod SumReads
 pub mod TagReads

@@ -61,7 +61,7 @@ front-is before head id lat lon n place first is e = rw (first, e, is) refl
 no_answer : {A : Type 0} (f : EntityFault) (x : A) → ◌≡◌ {A = Result A EntityFault} (Err f) (Ok x) → ⊥
 no_answer f x e = cc
 
-as_fault : {A B : Type 0} (f g : EntityFault) → ◌≡◌ {A = Result A EntityFault} (Err f) (Err g)
+pub as_fault : {A B : Type 0} (f g : EntityFault) → ◌≡◌ {A = Result A EntityFault} (Err f) (Err g)
     → ◌≡◌ {A = Result B EntityFault} (Err f) (Err g)
 as_fault f g e = ap Err (same f g e)
   where

@@ -12,10 +12,10 @@ use Rattle.osm_model.specs.declared.faults.EntityFault.TheVariants.{StringIndex,
 use Rattle.osm_model.specs.Objects.{string_at, tag_at, indexed_tags}
 use Rattle.osm_entity.specs.TagChecks.{bad_index}
 
-string-some : (strings : List Text) (k : ℕ) → k < length strings → (text : Text) × (string_at strings k ≡ Ok text)
+pub string-some : (strings : List Text) (k : ℕ) → k < length strings → (text : Text) × (string_at strings k ≡ Ok text)
 string-some strings k less = (_, ap (λ o. ok_or o StringIndex) (slice_get-get_or strings k [] less))
 
-string-none : (strings : List Text) (k : ℕ) → length strings ≤ k → string_at strings k ≡ Err StringIndex
+pub string-none : (strings : List Text) (k : ℕ) → length strings ≤ k → string_at strings k ≡ Err StringIndex
 string-none strings k past = ap (λ o. ok_or o StringIndex) (slice_get_past strings k past)
 
 -- the fault of keys and values, whether they are as many and then by their tags

@@ -1,7 +1,10 @@
 pub mod Answers
+pub mod Dense
+pub mod DenseColumns
 pub mod InBlock
 pub mod Node
 pub mod Order
 pub mod Place
 pub mod Sums
 pub mod TagChecks
+pub mod TagRun

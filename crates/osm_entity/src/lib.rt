@@ -4,12 +4,19 @@
 //! keys and values. `node` reads a plain node, and `place` its place.
 #![tactic(auto)]
 
+mod columns;
+mod dense;
+mod dense_read;
 mod in_block;
 mod node;
+mod node_numbers;
 pub mod node_view;
 pub mod order;
 mod parts;
 mod place;
+mod run_end;
+mod sums;
+mod tag_run;
 mod tags;
 
 pub use osm_model::faults::EntityFault;
