@@ -9,3 +9,9 @@ pub mod RunEnds
 pub mod RunReads
 pub mod SumReads
 pub mod TagReads
+pub mod SignedSums
+pub mod MemberReads
+pub mod MemberRows
+pub mod PlacedReads
+pub mod WayReads
+pub mod RelationReads

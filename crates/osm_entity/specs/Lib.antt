@@ -2,9 +2,15 @@ pub mod Answers
 pub mod Dense
 pub mod DenseColumns
 pub mod InBlock
+pub mod MemberChecks
+pub mod Members
 pub mod Node
 pub mod Order
 pub mod Place
+pub mod PlacedIds
+pub mod Refs
+pub mod Relations
 pub mod Sums
 pub mod TagChecks
 pub mod TagRun
+pub mod Ways
