@@ -1,0 +1,2 @@
+pub mod ReadBlobs
+pub mod WholePass
