@@ -139,7 +139,7 @@ fn are_tables(items: &[Value]) -> bool
 #[cfg(test)]
 mod tests {
     use super::*;
-    use std::alloc::AllocError;
+    use std::fmt::{Error, Write};
     use std::test::Fail;
 
     const FIRST_POI: MappingFault = MappingFault::Entry {
@@ -148,7 +148,7 @@ mod tests {
     };
 
     // A file, and why it is no mapping: from the order of the faults.
-    const FILES: [(&[u8], Option<MappingFault>); 24] = [
+    const FILES: [(&[u8], Option<MappingFault>); 25] = [
         (b"", None),
         (b"poi = []\n", None),
         (b"poi", Some(MappingFault::Toml)),
@@ -197,6 +197,13 @@ mod tests {
             }),
         ),
         (
+            b"way = [{key = \"a\", value = \"b\", zoom = 5, colour = 1}]\n",
+            Some(MappingFault::Entry {
+                list: List::Way,
+                index: 0,
+            }),
+        ),
+        (
             b"[[poi]]\nkey = \"ele\"\nvalue = \"%f\"\nzoom = 17\n",
             Some(MappingFault::Kind {
                 list: List::Poi,
@@ -237,26 +244,35 @@ mod tests {
         }
     }
 
-    // A file of so many empty entries of `way`.
-    fn empty_ways(alloc: Global, count: usize) -> Result<Vec<u8>, AllocError> {
-        let mut bytes = Vec::new(alloc);
-        for _ in 0..count {
-            bytes.extend_from_slice(b"[[way]]\n")?;
+    // A file with so many entries in each list.
+    fn long_file(alloc: Global, poi: usize, way: usize) -> Result<String, Error> {
+        let mut text = String::new(alloc);
+        for (list, count) in [("poi", poi), ("way", way)] {
+            for index in 0..count {
+                write!(
+                    text,
+                    "[[{list}]]\nkey = 'a'\nvalue = 'b{index}'\nzoom = 5\n"
+                )?;
+            }
         }
-        Ok(bytes)
+        Ok(text)
     }
+
+    // How many entries each list has, and the fault of a file with one more in one list or in both.
+    const LENGTHS: [(usize, usize, Option<MappingFault>); 4] = [
+        (4096, 4096, None),
+        (4097, 4097, Some(MappingFault::TooMany { list: List::Poi })),
+        (4097, 0, Some(MappingFault::TooMany { list: List::Poi })),
+        (0, 4097, Some(MappingFault::TooMany { list: List::Way })),
+    ];
 
     #[test]
     fn long_lists(rt: HostRuntime) -> Result<(), Fail> {
-        let fits = empty_ways(rt.alloc(), 4096)?;
-        let entry = MappingFault::Entry {
-            list: List::Way,
-            index: 0,
-        };
-        assert_eq!(rt; read_mapping(rt.alloc(), &fits).err(), Some(entry));
-        let long = empty_ways(rt.alloc(), 4097)?;
-        let many = MappingFault::TooMany { list: List::Way };
-        assert_eq!(rt; read_mapping(rt.alloc(), &long).err(), Some(many));
+        for (poi, way, fault) in LENGTHS {
+            let file = long_file(rt.alloc(), poi, way)?;
+            let read = read_mapping(rt.alloc(), file.as_bytes());
+            assert_eq!(rt; read.err(), fault, "of {poi} and {way}");
+        }
         Ok(())
     }
 
