@@ -3,6 +3,8 @@ use Rattle.std.proofs.Common.{◌≡◌, ℕ, zero, suc, ◌+◌, ◌*◌, ◌�
 use Rattle.std.proofs.Common.{refl, sym, ap, ◌∙◌, arith, subst}
 use Rattle.std.specs.Prelude.{map, slice_get, slice_index_or, option_map, unwrap_or, ◌-◌, ◌/◌}
 use Rattle.std.proofs.lemmas.List.{length-drop, length-take, length-append, length-map, map-append, take_all}
+use Rattle.std.proofs.lemmas.List.{take-set-le, drop-set-add, length-set}
+use Rattle.std.specs.Prelude.{slice_set}
 use Rattle.std.proofs.lemmas.List.{take-append-le, drop-append-le, drop-take}
 use Rattle.mf_rows.specs.Units.{Unit16}
 use Rattle.mf_rows.specs.Records.{Record}
@@ -205,6 +207,23 @@ module _ (units : List Unit16) (kept : List Kept) (closed cap : ℕ) (d : Deskto
           (record { records = d.records; loose = take n d.loose; capacity = d.capacity })
       cut-seen room full = changed later (take n d.loose) room cut-front cut-long
           (ap (drop closed) less ∙ drop-take closed n units ∙ ap (take n) (sym loose-is)) full
+
+    module _ (later : List Unit16) (i : ℕ) (u : Unit16) (below : i < length d.loose)
+        (put : later ≡ slice_set units (closed + i) u) where
+      set-front : take closed units ≡ take closed later
+      set-front = sym (ap (take closed) put ∙ take-set-le closed units (closed + i) u (omega arith))
+
+      pub set-long : closed ≤ length later
+      set-long = rw put (omega (arith, within, length-set units (closed + i) u))
+
+      pub set-kept : AreKept later 0 kept closed
+      set-kept = all-stay units later closed set-front set-long 0 kept is
+
+      pub set-seen : (room : ℕ) → room ≡ cap
+          → desktop later kept closed room ≡
+          (record { records = d.records; loose = slice_set d.loose i u; capacity = d.capacity })
+      set-seen room full = changed later (slice_set d.loose i u) room set-front set-long
+          (ap (drop closed) put ∙ drop-set-add closed units i u ∙ ap (λ us. slice_set us i u) (sym loose-is)) full
 
     -- the loose units become a record
     module _ (told : Told) (rest : List Unit16) (rest-is : rest ≡ drop closed units)

@@ -1,6 +1,6 @@
 //! Records in a fixed room.
 
-ghost use Rattle.std.specs.Prelude.{◌≡◌, ◌+◌, ◌≤◌, ◌<◌, [], ◌∷◌, ◌++◌, length, take, drop, slice_get};
+ghost use Rattle.std.specs.Prelude.{◌≡◌, ◌+◌, ◌≤◌, ◌<◌, [], ◌∷◌, ◌++◌, length, take, drop, slice_get, slice_set};
 ghost use Rattle.std.specs.Prelude.{Some, IfOk, IsSome, is_some};
 ghost use Rattle.std.specs.List.{AllByRecursion};
 ghost use Rattle.mf_rows.specs.Records.{LiesIn, drawn_parts};
@@ -96,6 +96,15 @@ impl Records {
         self.units.truncate(self.closed + n as usize);
     }
 
+    /// Puts a unit in the place of a loose one.
+    pub fn set_loose(&mut self, i: u32, unit: &[u8; 16])
+        requires { i < length self.old.loose }
+        ensures { self.new ≡ record self.old { loose = slice_set self.old.loose i unit.now } }
+    {
+        let at = self.closed + i as usize;
+        self.units[at] = *unit;
+    }
+
     /// Makes the loose units the last record, just where they spell one. Else nothing changes.
     pub fn close_record(&mut self) -> bool
         ensures is { result ≡ is_some (record_in self.old.loose) }
@@ -174,3 +183,6 @@ fn units_of<'a>(units: &'a [[u8; 16]], kept: &Kept) -> &'a [[u8; 16]]
 {
     units.split_at(kept.first).1.split_at(kept.count).0
 }
+
+#[cfg(test)]
+mod tests;
