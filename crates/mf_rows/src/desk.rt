@@ -21,7 +21,7 @@ impl Desk {
     /// An empty desk of so many rows.
     pub fn new(alloc: Global, rows: u32) -> Result<Desk, AllocError>
         requires some { 1 ≤ rows }
-        requires most { rows < 16777216 }
+        requires most { rows ≤ 16777216 }
         ensures records { IfOk result (λ d. d.records ≡ record { records = []; loose = []; capacity = rows }) }
         ensures out { IfOk result (λ d. d.out ≡ record { bytes = []; capacity = 16 * rows + 256 }) }
         ensures water { IfOk result (λ d. d.water ≡ false) }

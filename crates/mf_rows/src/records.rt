@@ -40,14 +40,14 @@ impl Model for Records {
     } };
 
     ghost invariant = { λ r. AreKept r.units.items 0 r.kept.items r.closed × (r.closed ≤ length r.units.items)
-        × (vec_capacity r.kept ≡ vec_capacity r.units / 10) × (vec_capacity r.units < 16777216) };
+        × (vec_capacity r.kept ≡ vec_capacity r.units / 10) × (vec_capacity r.units ≤ 16777216) };
 }
 
 impl Records {
     /// No records, in a room of so many rows.
     pub fn new(alloc: Global, rows: u32) -> Result<Records, AllocError>
         requires some { 1 ≤ rows }
-        requires most { rows < 16777216 }
+        requires most { rows ≤ 16777216 }
         ensures { IfOk result (λ r. r ≡ record { records = []; loose = []; capacity = rows }) }
     {
         Ok(Records {
