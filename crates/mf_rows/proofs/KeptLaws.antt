@@ -15,7 +15,7 @@ use Rattle.mf_rows.specs.declared.told.Told.{Told}
 use Rattle.mf_rows.specs.declared.told.Kept.{Kept}
 
 -- so many units from this one on are the same, where the front is
-front-of : (c f n : ℕ) (xs : List Unit16) → f + c ≤ n → take c (drop f (take n xs)) ≡ take c (drop f xs)
+pub front-of : (c f n : ℕ) (xs : List Unit16) → f + c ≤ n → take c (drop f (take n xs)) ≡ take c (drop f xs)
 front-of zero f n xs within = refl
 front-of (suc c) zero zero xs within = absurd (omega (arith, within))
 front-of (suc c) zero (suc n) [] within = refl

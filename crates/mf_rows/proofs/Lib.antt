@@ -8,3 +8,4 @@ pub mod HeadUnits
 pub mod Walked
 pub mod ToldLaws
 pub mod KeptLaws
+pub mod Redrawn

@@ -7,7 +7,7 @@ use Rattle.std.specs.List.{AllByRecursion}
 use Rattle.std.proofs.lemmas.Bool.{cases_Bool, and_parts, leb-true, le-leb, lt-leb, eqb-true}
 use Rattle.std.proofs.lemmas.List.{drop_all, length-drop, length-take, length-append, length-map}
 use Rattle.std.proofs.lemmas.Slice.Eq.{bytes_eq-Decides}
-use Rattle.std.specs.Prelude.{map, option_map, unwrap_or, slice_index_or}
+use Rattle.std.specs.Prelude.{map, option_map, unwrap_or}
 use Rattle.mf_base.specs.declared.kind.EntityKind.{EntityKind}
 use Rattle.mf_base.specs.declared.kind.Role.{Role}
 use Rattle.mf_rows.specs.Units.{Unit16, point_in, part_unit, part_in, with_part, next_parts}
@@ -16,6 +16,7 @@ use Rattle.mf_rows.specs.Heads.{HeadTold, head_in}
 use Rattle.mf_rows.specs.Records.{LiesIn, texts_told, spot_in, drawn_parts}
 use Rattle.mf_rows.specs.RecordUnits.{slot_sizes, sizes_total, spans_from, units_for, bytes_in, are_sizes, are_zeros}
 use Rattle.mf_rows.specs.RecordUnits.{is_line, is_drawn, is_behind, record_behind, record_in}
+use Rattle.mf_rows.specs.RecordUnits.{AreWide}
 use Rattle.mf_rows.specs.RecordUnits.{text_bytes, spot_count, parts_count, record_of}
 use Rattle.mf_rows.specs.Told.{IsTold}
 use Rattle.mf_rows.specs.declared.head.TextSlot.{TextSlot}
@@ -62,10 +63,6 @@ enough : (n : ℕ) → 0 + n ≤ 16 * ((n + 15) / 16)
 enough n = omega arith
 
 -- ---- how many units there are
-
--- units have sixteen bytes each
-abbrev pub AreWide : List Unit16 → Type 0
-AreWide units = (i : ℕ) → i < length units → length (slice_index_or units i []) ≡ 16
 
 later-wide : (u : Unit16) (units : List Unit16) → AreWide (u ∷ units) → AreWide units
 later-wide u units wide i below = wide (suc i) (omega (arith, below))
@@ -166,6 +163,24 @@ drawn-long EntityKind.Relation units is some =
 
 drop-few : (n : ℕ) (units : List Unit16) → length units < 2 ^ 63 → length (drop n units) < 2 ^ 63
 drop-few n units few = omega (arith, few, length-drop n units)
+
+wide-drop : (k : ℕ) (units : List Unit16) → AreWide units → AreWide (drop k units)
+wide-drop zero units wide = wide
+wide-drop (suc k) [] wide = wide
+wide-drop (suc k) (u ∷ units) wide = wide-drop k units (later-wide u units wide)
+
+-- the texts of a head take the units that are told for them
+pub text-count : (t : HeadTold) (units : List Unit16) → AreWide units
+    → units_for (sizes_total (slot_sizes t)) ≤ length (drop 10 units)
+    → units_for (length (text_bytes (record_of t (units_for (sizes_total (slot_sizes t))) (drop 10 units)).texts))
+    ≡ units_for (sizes_total (slot_sizes t))
+text-count t units wide fits =
+    let n : ℕ = units_for (sizes_total (slot_sizes t)) in
+    let bytes : length (bytes_in (take n (drop 10 units))) ≡ 16 * n =
+    wide-bytes n (drop 10 units) (wide-drop 10 units wide) fits in
+    let all : 0 + sizes_total (slot_sizes t) ≤ length (bytes_in (take n (drop 10 units))) =
+    rw bytes (enough (sizes_total (slot_sizes t))) in
+    ap units_for (texts-long (bytes_in (take n (drop 10 units))) 0 (slot_sizes t) all)
 
 -- a head, and units behind it that are those of its texts and of what it is drawn from
 module _ (t : HeadTold) (units : List Unit16) where

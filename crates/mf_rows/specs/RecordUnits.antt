@@ -1,5 +1,6 @@
 -- The units of a record, and the record that units spell: this project's profile, on row kinds. A record's units stand
 -- in the order head, texts by their slots, then the unit of each part and of its points; a node has its point there.
+use Rattle.std.specs.Prelude.{◌≡◌, ◌<◌, slice_index_or}
 use Rattle.std.specs.Prelude.{ℕ, ◌+◌, ◌*◌, ◌/◌, nat_le, nat_eq, is_some, Bool, true, List, [], ◌∷◌, ◌++◌}
 use Rattle.std.specs.Prelude.{length, take, drop, map, flat_map, replicate, bytes_eq, if◌then◌else◌, ◌&&◌}
 use Rattle.std.specs.Prelude.{Option, Some, None, unwrap_or}
@@ -23,6 +24,10 @@ use Rattle.mf_rows.specs.declared.head_units.TextLengths.{TextLengths}
 -- units as bytes
 abbrev pub bytes_in : List Unit16 → List ℕ
 bytes_in units = flat_map (λ u. u) units
+
+-- units have sixteen bytes each
+abbrev pub AreWide : List Unit16 → Type 0
+AreWide units = (i : ℕ) → i < length units → length (slice_index_or units i []) ≡ 16
 
 -- ---- the units of a record
 
@@ -73,9 +78,13 @@ abbrev pub parts_count : List Part → ℕ
 parts_count [] = 0
 parts_count (p ∷ parts) = 1 + length p.points + parts_count parts
 
--- The units of a record: ten for its head, one for each begun 16 bytes of its texts, one for each part and each point.
+-- The units of a record before those that it is drawn from: ten for its head, and one for each begun 16 bytes of texts.
+abbrev pub front_count : Record → ℕ
+front_count r = 10 + units_for (length (text_bytes r.texts))
+
+-- all its units: one more for each part and each point
 abbrev pub unit_count : Record → ℕ
-unit_count r = 10 + units_for (length (text_bytes r.texts)) + spot_count r.spot + parts_count r.parts
+unit_count r = front_count r + spot_count r.spot + parts_count r.parts
 
 -- The units of a record.
 unfoldable pub units_of : Record → List Unit16
@@ -163,3 +172,12 @@ record_behind units (Some t) =
 unfoldable pub record_in : List Unit16 → Option Record
 record_in units =
     if nat_le 10 (length units) then record_behind (drop 10 units) (head_in (take 10 units)) else None
+
+-- a record that is drawn from other units
+abbrev pub redrawn : Record → List Unit16 → Record
+redrawn r units = record {
+  head = r.head;
+  texts = r.texts;
+  spot = spot_in r.head.kind units;
+  parts = unwrap_or (drawn_parts r.head.kind units) [];
+}

@@ -4,6 +4,9 @@ ghost use Rattle.std.specs.Prelude.{◌≡◌, ℕ, ◌^◌, ◌<◌, List, Some
 ghost use Rattle.std.specs.List.{AllByRecursion};
 ghost use Rattle.mf_base.specs.declared.kind.Role.{Role};
 ghost use Rattle.feature_model.specs.Points.{Part};
+ghost use Rattle.std.specs.Prelude.{take, drop, ◌++◌, true};
+ghost use Rattle.mf_rows.specs.Records.{Record};
+ghost use Rattle.mf_rows.specs.RecordUnits.{AreWide, front_count, is_drawn, record_in, redrawn};
 ghost use Rattle.mf_rows.specs.Units.{Unit16, part_unit, part_in, parts_units, parts_in, IsPart};
 
 /// The unit of a part tells its role and its number of points, and no other unit tells them.
@@ -17,4 +20,15 @@ pub fn part_unit_is_read_back()
 /// The units of parts are read back as these parts.
 pub fn parts_are_read_back()
     ensures { (parts : List Part) → AllByRecursion IsPart parts → parts_in (parts_units parts) ≡ Some parts }
+{}
+
+/// Behind its head and texts stands what a record is drawn from, and other units there make another record of them.
+pub fn what_a_record_is_drawn_from()
+    ensures there { (units : List Unit16) (r : Record) → AreWide units → record_in units ≡ Some r
+        → is_drawn r.head.kind (drop (front_count r) units) ≡ true }
+    ensures same { (units : List Unit16) (r : Record) → AreWide units → record_in units ≡ Some r
+        → redrawn r (drop (front_count r) units) ≡ r }
+    ensures other { (units others : List Unit16) (r : Record) → AreWide units → record_in units ≡ Some r
+        → is_drawn r.head.kind others ≡ true
+        → record_in (take (front_count r) units ++ others) ≡ Some (redrawn r others) }
 {}

@@ -1,4 +1,4 @@
-use Rattle.std.proofs.Common.{◌≡◌, ◌+◌, ◌<◌, ◌∙◌, ap, length, vec_capacity, refl, subst}
+use Rattle.std.proofs.Common.{◌+◌, vec_capacity, refl}
 use Rattle.std.specs.Prelude.{slice_set}
 use Rattle.mf_rows.proofs.KeptLaws.{set-long, set-kept, set-seen}
 use Rattle.mf_rows.proofs.records.Records.set_loose.Goals as goal
