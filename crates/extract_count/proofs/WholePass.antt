@@ -52,7 +52,8 @@ place P old mid start h = omega (arith, h.counted, start)
 
 pub pass-blob : (Stands Now : List Entity → Option Rect → Type 0) (old mid new : StreamState) (block : List ℕ)
     (result : Result (Option given.Frame) NextFault) (f : given.Frame) (A : Type 0)
-    (answer : Result A InputCode) (x : A) → old.offset ≡ 0 → HasRead Stands old mid → TakesBlobs mid block result new → result ≡ Ok (Some f)
+    (answer : Result A InputCode) (x : A)
+    → old.offset ≡ 0 → HasRead Stands old mid → TakesBlobs mid block result new → result ≡ Ok (Some f)
     → ((es : List Entity) (box : Option Rect) → Stands es box
     → ReadsBlob Now es box (frame_shown block f).content answer)
     → answer ≡ Ok x → HasRead Now old new
