@@ -1,2 +1,3 @@
 pub mod ReadBlobs
 pub mod WholePass
+pub mod BlockPass

@@ -1,1 +1,2 @@
 pub mod ExtractReading
+pub mod BlockPass
