@@ -1,2 +1,3 @@
 pub mod ExtractReading
 pub mod BlockPass
+pub mod Counting
