@@ -123,3 +123,49 @@ fn put_entry(out: &mut OutBuf, list: List, index: u32)
     out.put(b" ");
     out.put(Buffer::new().format(index).as_bytes());
 }
+
+#[cfg(test)]
+mod tests {
+    use super::*;
+    use std::test::Fail;
+
+    // A refusal, and what is said of it.
+    const TEXTS: [(Refusal, &[u8]); 9] = [
+        (Refusal::Usage(UsageWord::Words), b"usage words"),
+        (Refusal::Usage(UsageWord::CreatedBy), b"usage created-by"),
+        (Refusal::Mapping(MappingFault::Toml), b"mapping toml"),
+        (
+            Refusal::Mapping(MappingFault::TooMany { list: List::Way }),
+            b"mapping too-many way",
+        ),
+        (
+            Refusal::Mapping(MappingFault::Kind {
+                list: List::Poi,
+                index: 0,
+            }),
+            b"mapping kind poi 0",
+        ),
+        (
+            Refusal::Mapping(MappingFault::Twice {
+                list: List::Poi,
+                index: 4095,
+            }),
+            b"mapping twice poi 4095",
+        ),
+        (Refusal::MappingLong, b"mapping too-long"),
+        (Refusal::Read, b"read"),
+        (Refusal::Memory, b"memory"),
+    ];
+
+    #[test]
+    fn texts_of_refusals(rt: HostRuntime) -> Result<(), Fail> {
+        let mut out = OutBuf::new(rt.alloc(), 80)?;
+        for (refusal, text) in TEXTS {
+            out.clear();
+            assert!(rt; out.spare() >= 80);
+            put_refusal(&mut out, refusal);
+            assert_eq!(rt; out.bytes(), text);
+        }
+        Ok(())
+    }
+}

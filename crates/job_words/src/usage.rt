@@ -120,3 +120,107 @@ fn accepts(option: UsageWord, value: &str) -> bool
         UsageWord::Make => read_made_input(value).is_some(),
     }
 }
+
+#[cfg(test)]
+mod tests {
+    use super::*;
+    use std::alloc::{AllocError, Global};
+    use std::test::Fail;
+
+    // What stands before the words of a row, and what is wrong with them all: an option by its value, at its bounds.
+    const ROWS: [(&[&str], Option<UsageWord>); 44] = [
+        (&[], Some(UsageWord::Mapping)),
+        (&["--poi=a=b@5"], None),
+        (&["--poi", "a=b@5", "--"], None),
+        (&["--mapping=m"], None),
+        (&["--mapping=m", "--poi=a=b@5"], Some(UsageWord::Mapping)),
+        (&["--poi=a", "--mapping=m"], Some(UsageWord::Mapping)),
+        (&["--poi=", "--mapping=m"], Some(UsageWord::Words)),
+        (&["--poi=a=b@5", "--poi=a=b@5"], Some(UsageWord::Words)),
+        (&["--poi=a=b@5", "--debug=yes"], Some(UsageWord::Words)),
+        (&["--poi=a=b@5", "--", "--"], Some(UsageWord::Words)),
+        (&["--poi", "--"], Some(UsageWord::Words)),
+        (&["--poi=a=%f@5"], Some(UsageWord::Poi)),
+        (&["--poi=a=b@22"], Some(UsageWord::Poi)),
+        (&["--poi=a=%f@5", "--rows=63"], Some(UsageWord::Poi)),
+        (&["--rows=63", "--poi=a=%f@5"], Some(UsageWord::Poi)),
+        (&["--rows=63"], Some(UsageWord::Mapping)),
+        (&["--poi=a=b@5", "--rows=63"], Some(UsageWord::Rows)),
+        (&["--poi=a=b@5", "--rows=64"], None),
+        (&["--poi=a=b@5", "--rows=16777216"], None),
+        (&["--poi=a=b@5", "--rows=16777217"], Some(UsageWord::Rows)),
+        (&["--poi=a=b@5", "--workers=0"], Some(UsageWord::Workers)),
+        (&["--poi=a=b@5", "--workers=1"], None),
+        (&["--poi=a=b@5", "--workers=64"], None),
+        (&["--poi=a=b@5", "--workers=65"], Some(UsageWord::Workers)),
+        (
+            &["--poi=a=b@5", "--intervals=0:1:7"],
+            Some(UsageWord::Intervals),
+        ),
+        (&["--poi=a=b@5", "--intervals=0:0:7"], None),
+        (&["--poi=a=b@5", "--box=0,0,10,10"], None),
+        (&["--poi=a=b@5", "--box=0,0,10,-10"], Some(UsageWord::Box)),
+        (
+            &["--poi=a=b@5", "--box", "-1,0,10,10"],
+            Some(UsageWord::Words),
+        ),
+        (&["--poi=a=b@5", "--date=253402300799999"], None),
+        (
+            &["--poi=a=b@5", "--date=253402300800000"],
+            Some(UsageWord::Date),
+        ),
+        (&["--poi=a=b@5", "--date=-0"], Some(UsageWord::Date)),
+        (&["--poi=a=b@5", "--start=90000000,-180000000"], None),
+        (
+            &["--poi=a=b@5", "--start=90000001,0"],
+            Some(UsageWord::Start),
+        ),
+        (&["--poi=a=b@5", "--start-zoom=21"], None),
+        (
+            &["--poi=a=b@5", "--start-zoom=22"],
+            Some(UsageWord::StartZoom),
+        ),
+        (&["--poi=a=b@5", "--language=en"], None),
+        (
+            &[
+                "--poi=a=b@5",
+                "--spill=here",
+                "--comment=c",
+                "--created-by=d",
+            ],
+            None,
+        ),
+        (
+            &["--poi=a=b@5", "--make=18446744073709551615,1000000"],
+            None,
+        ),
+        (
+            &["--poi=a=b@5", "--make=18446744073709551616,1"],
+            Some(UsageWord::Make),
+        ),
+        (&["--poi=a=b@5", "--make=7,0"], Some(UsageWord::Make)),
+        (&["--poi=a=b@5", "--make=7,1000001"], Some(UsageWord::Make)),
+        (&["--poi=a=b@5", "--make=7"], Some(UsageWord::Make)),
+        (
+            &["--poi=a=b@5", "--make=0", "--box=0"],
+            Some(UsageWord::Box),
+        ),
+    ];
+
+    fn owned(alloc: Global, words: &[&str]) -> Result<Vec<String>, AllocError> {
+        let mut all = Vec::new(alloc);
+        for word in words {
+            all.push(String::from_str(alloc, word)?)?;
+        }
+        Ok(all)
+    }
+
+    #[test]
+    fn first_broken_rules(rt: HostRuntime) -> Result<(), Fail> {
+        for (words, want) in ROWS {
+            let words = owned(rt.alloc(), words)?;
+            assert_eq!(rt; usage(&words), want, "in {words:?}");
+        }
+        Ok(())
+    }
+}
