@@ -36,6 +36,15 @@ pub record IsThere (p : Piece) (s : SpillState) : Type 0 where
 abbrev pub IsHeld : {K : Type 0} → Kind K → Part K → SpillState → Type 0
 IsHeld kind p s = IsThere (piece_of kind p) s
 
+-- A part of plain bytes: its number, and how many bytes were put to it.
+pub record BytePart : Type 0 where
+  pub part : ℕ
+  pub size : ℕ
+
+-- the part of plain bytes is there, with so many bytes
+abbrev pub HasItsSize : BytePart → SpillState → Type 0
+HasItsSize p s = s.size p.part ≡ Some p.size
+
 -- no number stands twice
 abbrev pub AllDiffer : List Piece → Type 0
 AllDiffer [] = ⊤

@@ -1,6 +1,7 @@
 //! Parts of rows: written, ordered and read.
 #![tactic(auto)]
 
+mod byte_part;
 mod handed;
 mod merge;
 mod part;
@@ -9,6 +10,7 @@ mod told;
 mod uses;
 mod writer;
 
+pub use byte_part::BytePart;
 pub use handed::{Ingested, Shapes};
 pub use merge::{JoinOf, Keyed, join};
 pub use part::{Part, forget_part, order_part};

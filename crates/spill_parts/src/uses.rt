@@ -2,8 +2,9 @@
 
 ghost use Rattle.std.specs.Prelude.{◌≡◌, ◌≢◌, ◌+◌, ◌*◌, ◌<◌, ◌≤◌, true, ◌++◌, length, IfOk, OnOk, OnErr};
 ghost use Rattle.mf_edge.specs.Device.{CountsOne};
-ghost use Rattle.mf_edge.specs.Spill.{SameStore, most_parts};
+ghost use Rattle.mf_edge.specs.Spill.{SameStore, TouchesOnly, most_parts};
 ghost use Rattle.spill_parts.specs.Parts.{IsHeld, IsReading};
+ghost use Rattle.spill_parts.specs.Join.{IsAdded};
 
 use crate::part::Part;
 use crate::reader::{Page, Reader};
@@ -27,6 +28,7 @@ pub fn copy<K: RowKind, P: Spill, L: Ledger>(
     ensures same_faults { OnOk result ((P.state spill.new).faults ≡ (P.state spill.old).faults) }
     ensures failed { OnErr result (CountsOne (P.state spill.old).faults (P.state spill.new).faults) }
     ensures steps { OnOk result (steps.new ≤ steps.old + K.kind.width * length from.now.rows) }
+    ensures added { IfOk result (λ to. IsAdded to.part (P.state spill.old) (P.state spill.new)) }
     ensures same { SameStore (P.state spill.old) (P.state spill.new) }
 {
     let mut to = Writer::<K>::make(spill)?;
@@ -53,7 +55,8 @@ fn copy_rest<K: RowKind, P: Spill, L: Ledger>(
         (steps.new + K.kind.width * reader.old.loaded ≤ steps.old + K.kind.width * length reader.old.source.rows) }
     ensures same_faults { OnOk result ((P.state spill.new).faults ≡ (P.state spill.old).faults) }
     ensures failed { OnErr result (CountsOne (P.state spill.old).faults (P.state spill.new).faults) }
-    ensures same { SameStore (P.state spill.old) (P.state spill.new) }
+    ensures part { to.new.part ≡ to.old.part }
+    ensures only { TouchesOnly to.old.part (P.state spill.old) (P.state spill.new) }
     ensures counts { (P.state spill.old).faults ≤ (P.state spill.new).faults }
 {
     while let Some(row) = reader.next(spill, page, steps)? {

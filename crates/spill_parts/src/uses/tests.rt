@@ -138,3 +138,25 @@ fn each_of_ten_calls_fails_in_turn(rt: HostRuntime) -> Result<(), Fail> {
     }
     Ok(())
 }
+
+// Two rows are read by the copy, and then of the copy. What is read as zeros are rows that nobody wrote.
+#[test]
+fn zeros_are_read_as_rows(rt: HostRuntime) -> Result<(), Fail> {
+    let mut page = Page::new(rt.alloc(), 3)?;
+    let rows = [row(2, 0), row(1, 0)];
+    let ordered = [row(1, 0), row(2, 0)];
+    let zero = NodeRow {
+        node: 0,
+        lat: 0,
+        lon: 0,
+    };
+    for (zeros, found) in [(0, ordered), (1, [zero; 2]), (2, [zero; 2]), (3, ordered)] {
+        let mut store = MemSpill::untold(rt.alloc(), &[], zeros)?;
+        let mut room = [row(9, 9); 2];
+        let blank = Blank::new(1);
+        let outcome = in_order::<MemSpill, Brand>(&mut store, &rows, &mut page, blank, &mut room);
+        assert_eq!(rt; outcome, Ok(2), "zeros at read {zeros}");
+        assert!(rt; room == found, "zeros at read {zeros}");
+    }
+    Ok(())
+}

@@ -1,11 +1,11 @@
 use Rattle.std.proofs.Common.{◌≡◌, ◌+◌, ◌*◌, true, ◌++◌, length}
-use Rattle.mf_edge.specs.Spill.{SameStore}
+use Rattle.mf_edge.specs.Spill.{TouchesOnly}
 use Rattle.spill_parts.specs.Parts.{IsHeld, IsReading}
 use Rattle.spill_parts.proofs.uses.copy_rest.Given as goal
 
 abbrev pub invariant-loop-row : goal.invariant-loop-row
 invariant-loop-row g l = record {
-  same : SameStore (g.P.Spill.state l.fn.spill) (g.P.Spill.state l.spill);
+  only : TouchesOnly l.fn.to.part (g.P.Spill.state l.fn.spill) (g.P.Spill.state l.spill);
   same_faults : (g.P.Spill.state l.spill).faults ≡ (g.P.Spill.state l.fn.spill).faults;
   reading : IsReading g.K.RowKind.kind l.reader l.page (g.P.Spill.state l.spill);
   held : IsHeld g.K.RowKind.kind l.to (g.P.Spill.state l.spill);
