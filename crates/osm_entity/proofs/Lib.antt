@@ -1,8 +1,13 @@
 pub mod NodeReads
+pub mod ObjectKinds
 pub mod OrderReads
 pub mod BlockTexts
+pub mod BlockTurns
 pub mod DenseNext
 pub mod DenseReads
+pub mod EntityReads
+pub mod GroupReads
+pub mod GroupTurns
 pub mod MessageParts
 pub mod PlaceReads
 pub mod RunEnds

@@ -1,9 +1,11 @@
 -- The dense nodes that are left, in the words of the definitions. This project's own.
-use Rattle.std.specs.Prelude.{◌≡◌, List, [], ◌∷◌, Option, Some, None, option_map, Result, Ok, Err}
+use Rattle.std.specs.Prelude.{◌≡◌, false, List, [], ◌∷◌, Option, Some, None, option_map, Result, Ok, Err}
 use Rattle.osm_model.specs.declared.faults.EntityFault.{EntityFault}
 use Rattle.osm_model.specs.Blocks.{PrimitiveBlock}
 use Rattle.osm_model.specs.Entities.{Entity}
 use Rattle.osm_model.specs.Objects.{Object, TagRun, dense_from, other_runs}
+use Rattle.mf_base.specs.declared.kind.EntityKind.TheVariants as kinds
+use Rattle.osm_model.specs.Order.{has_later_kind}
 use Rattle.osm_entity.specs.Answers.{placed}
 use Rattle.osm_entity.specs.Node.{node_told}
 use Rattle.osm_entity.specs.DenseColumns.{numbers_shown, sums_of, signed_in}
@@ -40,6 +42,7 @@ abbrev pub GivesNode : List Entity → List (Result Object EntityFault) → Resu
     → List (Result Object EntityFault) → Type 0
 GivesNode before left (Ok (Some view)) rest =
     (told : Result Object EntityFault) × (left ≡ told ∷ rest) × (placed before told ≡ Ok (node_told view))
+    × (has_later_kind kinds.Node before ≡ false)
 GivesNode before left (Ok None) rest = (left ≡ []) × (rest ≡ left)
 GivesNode before left (Err fault) rest =
     (told : Result Object EntityFault) × (others : List (Result Object EntityFault)) × (left ≡ told ∷ others)

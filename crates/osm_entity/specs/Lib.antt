@@ -1,6 +1,11 @@
 pub mod Answers
+pub mod BlockEntities
 pub mod Dense
 pub mod DenseColumns
+pub mod EntityViews
+pub mod GroupFields
+pub mod GroupKinds
+pub mod Groups
 pub mod InBlock
 pub mod MemberChecks
 pub mod Members
