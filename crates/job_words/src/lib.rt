@@ -10,6 +10,8 @@ pub mod job;
 mod mapping_file;
 pub mod refusal;
 pub mod settings;
+#[cfg(test)]
+mod tests;
 pub mod usage;
 pub mod usage_word;
 pub mod values;
