@@ -1,4 +1,4 @@
-use Rattle.std.proofs.Common.{◌-◌, ◌≡◌, ◌<◌, ◌≤◌, ◌*◌, length, true, Some}
+use Rattle.std.proofs.Common.{◌-◌, ◌≡◌, ◌≤◌, ◌*◌, length, true, Some}
 use Rattle.spill_try.proofs.one_part.is_ordered.Given as goal
 
 abbrev pub invariant-loop-at : goal.invariant-loop-at
