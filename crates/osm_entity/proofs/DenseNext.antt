@@ -15,7 +15,7 @@ use Rattle.osm_entity.specs.Dense.{GivesDense}
 use Rattle.osm_model.specs.declared.faults.EntityFault.{EntityFault}
 use Rattle.osm_model.specs.Blocks.{PrimitiveBlock}
 use Rattle.osm_model.specs.Entities.{Entity}
-use Rattle.osm_model.specs.Objects.{Object, dense_node, dense_from, first_run, other_runs}
+use Rattle.osm_model.specs.Objects.{Object, dense_node, dense_from, next_run, other_runs}
 use Rattle.osm_entity.specs.Answers.{placed}
 use Rattle.osm_entity.specs.DenseColumns.{numbers_shown, sums_of, signed_in, BeginWith}
 use Rattle.osm_entity.specs.Dense.{dense_left, runs_left, nodes_of_columns, IsBehind, GivesNode}
@@ -27,7 +27,7 @@ use Rattle.osm_entity.proofs.DenseReads.{dense-next}
 
 -- the object of the node of these differences
 abbrev pub object_of : PrimitiveBlock → Dense → NodeNumbers → Result Object EntityFault
-object_of b old d = dense_node b (sums_of (numbers_shown old.before) (numbers_shown d)) (first_run (runs_left old))
+object_of b old d = dense_node b (sums_of (numbers_shown old.before) (numbers_shown d)) (next_run (runs_left old))
 
 objects_behind : (b : PrimitiveBlock) (old new : Dense) (d : NodeNumbers) (columns : Columns)
     → IsBehind old d columns new

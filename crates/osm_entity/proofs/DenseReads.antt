@@ -11,7 +11,7 @@ use Rattle.osm_model.specs.declared.faults.EntityFault.{EntityFault}
 use Rattle.osm_model.specs.declared.faults.EntityFault.TheVariants as faults
 use Rattle.osm_model.specs.Blocks.{PrimitiveBlock}
 use Rattle.osm_model.specs.Entities.{Entity}
-use Rattle.osm_model.specs.Objects.{Object, TagRun, before_run, tag_runs, runs_of, first_run, other_runs, left_over}
+use Rattle.osm_model.specs.Objects.{Object, TagRun, before_run, tag_runs, runs_of, next_run, other_runs, left_over}
 use Rattle.osm_model.specs.Objects.{run_tags}
 use Rattle.osm_model.specs.Objects.{dense_node, dense_from}
 use Rattle.osm_model.specs.Order.{entity_behind}
@@ -127,7 +127,7 @@ dense-end b n ids lats lons runs e f g =
 pub dense-next : (b : PrimitiveBlock) (n d : ℤ × ℤ × ℤ) (ids lats lons is js ks : List ℤ)
     (runs : Option (List TagRun)) → ids ≡ d.0 ∷ is → lats ≡ d.1 ∷ js → lons ≡ d.2 ∷ ks
     → dense_from b n ids lats lons runs
-    ≡ dense_node b (sums_of n d) (first_run runs) ∷ dense_from b (sums_of n d) is js ks (other_runs runs)
+    ≡ dense_node b (sums_of n d) (next_run runs) ∷ dense_from b (sums_of n d) is js ks (other_runs runs)
 dense-next b n d ids lats lons is js ks runs e f g =
     ap (λ is. dense_from b n is lats lons runs) e ∙ ap (λ xs. dense_from b n (d.0 ∷ is) xs lons runs) f
     ∙ ap (λ xs. dense_from b n (d.0 ∷ is) (d.1 ∷ js) xs runs) g ∙ from-next b n d is js ks runs

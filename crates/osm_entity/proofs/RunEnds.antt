@@ -18,7 +18,7 @@ use Rattle.mf_base.proofs.PackedFront.{numbers-first, whole-first, whole-end, wh
 use Rattle.osm_model.specs.declared.faults.EntityFault.{EntityFault}
 use Rattle.osm_model.specs.declared.faults.EntityFault.TheVariants as faults
 use Rattle.osm_model.specs.Wire.{IsPacked}
-use Rattle.osm_model.specs.Objects.{TagRun, by_zero, tag_runs, run_tags, first_run, tag_at}
+use Rattle.osm_model.specs.Objects.{TagRun, by_zero, tag_runs, run_tags, next_run, tag_at}
 use Rattle.mf_base.specs.Tags.{Tags}
 use Rattle.mf_base.specs.Entries.{entry_tags}
 use Rattle.mf_base.specs.Steps.{◌>>=◌, each}
@@ -270,8 +270,8 @@ list-told bytes places list end behind count tags r many is ends are =
     ∙ ap (run_tags (texts_at bytes places)) (sym e.first)
 
 pub none-told : (strings : List Text) (list : Option (List ℕ)) (tags : Tags) → list ≡ None → tags ≡ []
-    → Ok tags ≡ run_tags strings (first_run (runs_of_list list))
+    → Ok tags ≡ run_tags strings (next_run (runs_of_list list))
 none-told strings list tags none are =
-    ap Ok are ∙ sym (closed-told strings []) ∙ ap (λ l. run_tags strings (first_run (runs_of_list l))) (sym none)
+    ap Ok are ∙ sym (closed-told strings []) ∙ ap (λ l. run_tags strings (next_run (runs_of_list l))) (sym none)
 
 pub ruleset no_numbers = (whole-nil, numbers-nil)

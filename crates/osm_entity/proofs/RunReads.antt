@@ -16,7 +16,7 @@ use Rattle.osm_model.specs.declared.faults.EntityFault.TheVariants as faults
 use Rattle.osm_model.specs.Wire.{IsPacked}
 use Rattle.osm_model.specs.Objects.{string_at, tag_at, TagRun, RunEnd, by_zero, behind_key, with_list, empty_run}
 use Rattle.osm_model.specs.Objects.{before_run}
-use Rattle.osm_model.specs.Objects.{tag_runs, first_run, other_runs, run_tags, end_of_run}
+use Rattle.osm_model.specs.Objects.{tag_runs, next_run, other_runs, run_tags, end_of_run}
 use Rattle.osm_model.proofs.PackedLaws.{packed_found}
 use Rattle.osm_entity.proofs.TagReads.{string-some, string-none, bad_tag}
 
@@ -52,7 +52,7 @@ more-whole a b e f = (in_front a (packed_numbers a) b (packed_found a e)).whole 
 -- ---- the first run, step by step
 
 R : List ℕ → TagRun
-R ns = first_run (Some (tag_runs ns))
+R ns = next_run (Some (tag_runs ns))
 
 tag_runs-nil : tag_runs [] ≡ []
 unfolding tag_runs
@@ -77,7 +77,7 @@ abbrev pub with_pair : ℕ × ℕ → TagRun → TagRun
 with_pair pair run = record { pairs = pair ∷ run.pairs; ends = run.ends }
 
 first-before : (pair : ℕ × ℕ) (runs : List TagRun)
-    → first_run (Some (before_run pair runs)) ≡ with_pair pair (first_run (Some runs))
+    → next_run (Some (before_run pair runs)) ≡ with_pair pair (next_run (Some runs))
 first-before pair [] = refl
 first-before pair (run ∷ runs) = refl
 
@@ -88,9 +88,9 @@ others-before pair (run ∷ runs) = refl
 
 -- a pair in front of numbers
 pub run-pair : (ns rest : List ℕ) (k v : ℕ) → 0 < k → ns ≡ k ∷ v ∷ rest
-    → first_run (Some (tag_runs ns)) ≡ with_pair (k, v) (first_run (Some (tag_runs rest)))
+    → next_run (Some (tag_runs ns)) ≡ with_pair (k, v) (next_run (Some (tag_runs rest)))
 run-pair ns rest k v above e =
-    ap (λ x. first_run (Some (tag_runs x))) e ∙ ap (λ x. first_run (Some x)) (tag_runs-pair k v rest above)
+    ap (λ x. next_run (Some (tag_runs x))) e ∙ ap (λ x. next_run (Some x)) (tag_runs-pair k v rest above)
     ∙ first-before (k, v) (tag_runs rest)
 
 pub others-pair : (ns rest : List ℕ) (k v : ℕ) → 0 < k → ns ≡ k ∷ v ∷ rest
@@ -99,8 +99,8 @@ others-pair ns rest k v above e =
     ap (λ x. other_runs (Some (tag_runs x))) e ∙ ap (λ x. other_runs (Some x)) (tag_runs-pair k v rest above)
     ∙ others-before (k, v) (tag_runs rest)
 
-pub run-zero : (ns rest : List ℕ) → ns ≡ 0 ∷ rest → first_run (Some (tag_runs ns)) ≡ empty_run by_zero
-run-zero ns rest e = ap (λ x. first_run (Some (tag_runs x))) e ∙ ap (λ x. first_run (Some x)) (tag_runs-zero rest)
+pub run-zero : (ns rest : List ℕ) → ns ≡ 0 ∷ rest → next_run (Some (tag_runs ns)) ≡ empty_run by_zero
+run-zero ns rest e = ap (λ x. next_run (Some (tag_runs x))) e ∙ ap (λ x. next_run (Some x)) (tag_runs-zero rest)
 
 pub others-zero : (ns rest : List ℕ) → ns ≡ 0 ∷ rest → other_runs (Some (tag_runs ns)) ≡ Some (tag_runs rest)
 others-zero ns rest e = ap (λ x. other_runs (Some (tag_runs x))) e ∙ ap (λ x. other_runs (Some x)) (tag_runs-zero rest)
@@ -117,21 +117,21 @@ told strings pairs ends = each (tag_at strings) pairs >>= λ tags. end_of_run st
 
 -- no number is left
 pub fault-none : (strings : List Text) (ns : List ℕ) → ns ≡ []
-    → run_tags strings (first_run (Some (tag_runs ns))) ≡ Err faults.Columns
+    → run_tags strings (next_run (Some (tag_runs ns))) ≡ Err faults.Columns
 fault-none strings ns e =
-    ap (λ x. run_tags strings (first_run (Some (tag_runs x)))) e
-    ∙ ap (λ x. run_tags strings (first_run (Some x))) tag_runs-nil ∙ told-run strings (empty_run with_list)
+    ap (λ x. run_tags strings (next_run (Some (tag_runs x)))) e
+    ∙ ap (λ x. run_tags strings (next_run (Some x))) tag_runs-nil ∙ told-run strings (empty_run with_list)
 
 last-key : (strings : List Text) (ns : List ℕ) (k : ℕ) → 0 < k → ns ≡ k ∷ []
-    → run_tags strings (first_run (Some (tag_runs ns))) ≡ (string_at strings k >>= λ key. Err faults.KeyWithoutValue)
+    → run_tags strings (next_run (Some (tag_runs ns))) ≡ (string_at strings k >>= λ key. Err faults.KeyWithoutValue)
 last-key strings ns k above e =
-    ap (λ x. run_tags strings (first_run (Some (tag_runs x)))) e
-    ∙ ap (λ x. run_tags strings (first_run (Some x))) (tag_runs-key k above)
+    ap (λ x. run_tags strings (next_run (Some (tag_runs x)))) e
+    ∙ ap (λ x. run_tags strings (next_run (Some x))) (tag_runs-key k above)
     ∙ told-run strings (empty_run (behind_key k))
 
 -- a key is the last number
 pub fault-key : (strings : List Text) (ns : List ℕ) (k : ℕ) → 0 < k → ns ≡ k ∷ [] → k < length strings
-    → run_tags strings (first_run (Some (tag_runs ns))) ≡ Err faults.KeyWithoutValue
+    → run_tags strings (next_run (Some (tag_runs ns))) ≡ Err faults.KeyWithoutValue
 fault-key strings ns k above e known =
     last-key strings ns k above e
     ∙ ap (λ r. r >>= λ key. Err faults.KeyWithoutValue) (string-some strings k known).1
@@ -139,17 +139,17 @@ fault-key strings ns k above e known =
 -- the pair in front has no tag
 pub fault-pair : (strings : List Text) (ns rest : List ℕ) (k v : ℕ) → 0 < k → ns ≡ k ∷ v ∷ rest
     → (length strings ≤ k) ⊎ (length strings ≤ v)
-    → run_tags strings (first_run (Some (tag_runs ns))) ≡ Err faults.StringIndex
+    → run_tags strings (next_run (Some (tag_runs ns))) ≡ Err faults.StringIndex
 fault-pair strings ns rest k v above e bad =
     ap (run_tags strings) (run-pair ns rest k v above e)
-    ∙ told-run strings (with_pair (k, v) (first_run (Some (tag_runs rest))))
-    ∙ ap (λ r. (r >>= λ first. each (tag_at strings) (first_run (Some (tag_runs rest))).pairs >>= λ others.
-    Ok (first ∷ others)) >>= λ tags. end_of_run strings (first_run (Some (tag_runs rest))).ends tags)
+    ∙ told-run strings (with_pair (k, v) (next_run (Some (tag_runs rest))))
+    ∙ ap (λ r. (r >>= λ first. each (tag_at strings) (next_run (Some (tag_runs rest))).pairs >>= λ others.
+    Ok (first ∷ others)) >>= λ tags. end_of_run strings (next_run (Some (tag_runs rest))).ends tags)
     (bad_tag strings k v bad)
 
 -- the key in front is none
 pub fault-bad_key : (strings : List Text) (ns rest : List ℕ) (k : ℕ) → 0 < k → ns ≡ k ∷ rest → length strings ≤ k
-    → run_tags strings (first_run (Some (tag_runs ns))) ≡ Err faults.StringIndex
+    → run_tags strings (next_run (Some (tag_runs ns))) ≡ Err faults.StringIndex
 fault-bad_key strings ns [] k above e past =
     last-key strings ns k above e
     ∙ ap (λ r. r >>= λ key. Err faults.KeyWithoutValue) (string-none strings k past)

@@ -7,7 +7,7 @@ use Rattle.mf_base.specs.Entries.{are_entries, by_twos}
 use Rattle.osm_model.specs.declared.faults.EntityFault.{EntityFault}
 use Rattle.osm_entity.specs.declared.run_end.Front.{Front}
 use Rattle.osm_entity.specs.declared.run_end.Front.TheVariants.{Pair, Zero}
-use Rattle.osm_model.specs.Objects.{TagRun, by_zero, tag_runs, first_run, other_runs, run_tags}
+use Rattle.osm_model.specs.Objects.{TagRun, by_zero, tag_runs, next_run, other_runs, run_tags}
 
 -- the list, where there is one, is whole varints
 abbrev pub are_whole : Option (List ℕ) → Bool
@@ -19,7 +19,7 @@ runs_of_list list = option_map (λ bytes. tag_runs (packed_numbers bytes)) list
 
 -- the run of the first node of a list
 abbrev pub run_in : List ℕ → TagRun
-run_in bytes = first_run (Some (tag_runs (packed_numbers bytes)))
+run_in bytes = next_run (Some (tag_runs (packed_numbers bytes)))
 
 -- The runs of a list of whole varints, behind the first.
 abbrev pub others_in : List ℕ → Option (List TagRun)

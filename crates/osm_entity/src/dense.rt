@@ -28,7 +28,7 @@ impl<'a> Dense<'a> {
     ghost use Rattle.mf_base.specs.Packed.{are_varints, packed_numbers};
     ghost use Rattle.osm_model.specs.Blocks.{PrimitiveBlock};
     ghost use Rattle.osm_model.specs.Entities.{Entity};
-    ghost use Rattle.osm_model.specs.Objects.{runs_of, dense_from, dense_node, first_run};
+    ghost use Rattle.osm_model.specs.Objects.{runs_of, dense_from, dense_node, next_run};
     ghost use Rattle.osm_entity.specs.Answers.{answer_as, placed};
     ghost use Rattle.osm_entity.specs.InBlock.{block_shown};
     ghost use Rattle.osm_entity.specs.Order.{StandsBehind};
@@ -87,7 +87,7 @@ impl<'a> Dense<'a> {
         ensures told { (before : List Entity) → StandsBehind before order.now
             → answer_as (λ found. node_told found.0) result
             ≡ placed before (dense_node (block_shown in_block.entry)
-            (sums_of (numbers_shown self.now.before) (numbers_shown differences)) (first_run (runs_left self.now))) }
+            (sums_of (numbers_shown self.now.before) (numbers_shown differences)) (next_run (runs_left self.now))) }
         ensures behind { IfOk result (λ found. IsBehind self.now differences columns.entry found.1) }
         ensures lent { IfOk result (λ found. node_block found.0 ≡ in_block.entry.block.now) }
     {

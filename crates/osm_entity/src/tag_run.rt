@@ -3,7 +3,7 @@
 ghost use Rattle.std.specs.Prelude.{◌≡◌, true, [], Some, option_map, IfOk};
 ghost use Rattle.mf_base.specs.Packed.{are_varints, packed_numbers};
 ghost use Rattle.mf_base.specs.TagCursor.{all_tags, tags_left, block_of};
-ghost use Rattle.osm_model.specs.Objects.{run_tags, tag_runs, runs_of, first_run, other_runs};
+ghost use Rattle.osm_model.specs.Objects.{run_tags, tag_runs, runs_of, next_run, other_runs};
 ghost use Rattle.osm_entity.specs.Answers.{answer_as};
 ghost use Rattle.osm_entity.specs.InBlock.{block_shown};
 ghost use Rattle.osm_entity.specs.TagRun.{runs_of_list, run_in, others_in, are_whole};
@@ -23,7 +23,7 @@ pub(crate) fn read_run<'a>(
     requires whole { are_whole (option_map (λ list. list.now) keys_vals) ≡ true }
     ensures told { answer_as (λ found. all_tags found.0) result
         ≡ run_tags (block_shown in_block.entry).strings
-        (first_run (runs_of_list (option_map (λ list. list.now) keys_vals.entry))) }
+        (next_run (runs_of_list (option_map (λ list. list.now) keys_vals.entry))) }
     ensures behind { IfOk result (λ found. runs_of_list (option_map (λ list. list.now) found.1)
         ≡ other_runs (runs_of_list (option_map (λ list. list.now) keys_vals.entry))) }
     ensures whole { IfOk result (λ found. are_whole (option_map (λ list. list.now) found.1) ≡ true) }

@@ -2,7 +2,7 @@ use Rattle.std.proofs.Common.{◌≡◌, ◌∙◌, sym, ap, rules, Err}
 use Rattle.osm_entity.specs.Answers.{answer_as}
 use Rattle.osm_entity.specs.InBlock.{block_shown}
 use Rattle.osm_entity.specs.Node.{node_told}
-use Rattle.osm_model.specs.Objects.{first_run}
+use Rattle.osm_model.specs.Objects.{next_run}
 use Rattle.osm_entity.specs.Dense.{dense_left, runs_left}
 use Rattle.osm_entity.specs.DenseColumns.{numbers_shown, sums_of}
 use Rattle.osm_entity.proofs.ObjectKinds.{dense-later}
@@ -28,7 +28,7 @@ returns-in_ok-view-in-Some-clause-gives c before behind =
           c.in_ok-view-in-Some.ensures.behind,
       placed_so,
       dense-later before b (sums_of (numbers_shown c.args.self.now.before) (numbers_shown c.in-Some.differences))
-          (first_run (runs_left c.args.self.now)) (node_told c.in_ok-view-in-Some.view) placed_so,
+          (next_run (runs_left c.args.self.now)) (node_told c.in_ok-view-in-Some.view) placed_so,
     )
 
 pub returns-in-None-clause-lent : goal.returns-in-None-clause-lent

@@ -1,6 +1,6 @@
 use Rattle.std.proofs.Common.{◌≡◌, ◌∙◌, sym, ap, rules, refl, Err}
 use Rattle.mf_base.specs.TagCursor.{all_tags}
-use Rattle.osm_model.specs.Objects.{run_tags, first_run}
+use Rattle.osm_model.specs.Objects.{run_tags, next_run}
 use Rattle.osm_entity.specs.Answers.{answer_as}
 use Rattle.osm_entity.specs.InBlock.{block_shown}
 use Rattle.osm_entity.specs.Node.{node_told}
@@ -15,7 +15,7 @@ returns-in_err-numbers-clause-told c before behind =
     let e : c.from_residual.result ≡ Err c.in_err-numbers.field-0.0 = search rules in
     ap (answer_as (λ found. node_told found.0)) e
     ∙ dense-range before (block_shown c.args.in_block) (numbers_shown c.args.self.now.before)
-    (numbers_shown c.args.differences) (first_run (runs_left c.args.self.now)) c.in_err-numbers.field-0.0
+    (numbers_shown c.args.differences) (next_run (runs_left c.args.self.now)) c.in_err-numbers.field-0.0
     (sym c.plus.ensures ∙ ap (answer_as numbers_shown) (c.in_err-numbers.was {u = tt}))
 
 pub returns-in_err-id-clause-told : goal.returns-in_err-id-clause-told
@@ -23,7 +23,7 @@ returns-in_err-id-clause-told c before behind =
     let e : c.from_residual-in_err-id.result ≡ Err c.in_err-id.field-0.0 = search rules in
     let b = block_shown c.args.in_block in
     let s = c.in_ok-numbers.numbers in
-    let run = first_run (runs_left c.args.self.now) in
+    let run = next_run (runs_left c.args.self.now) in
     let front = front_read before b.head s.id s.lat s.lon c.check_node.result (search rules) (search rules)
     (search rules) (c.check_node.ensures before behind) in
     ap (answer_as (λ found. node_told found.0)) e
@@ -37,7 +37,7 @@ returns-in_err-tags-clause-told c before behind =
     let e : c.from_residual-in_err-tags.result ≡ Err c.in_err-tags.field-0.0 = search rules in
     let b = block_shown c.args.in_block in
     let s = c.in_ok-numbers.numbers in
-    let run = first_run (runs_left c.args.self.now) in
+    let run = next_run (runs_left c.args.self.now) in
     let front = front_read before b.head s.id s.lat s.lon c.check_node.result (search rules) (search rules)
     (search rules) (c.check_node.ensures before behind) in
     ap (answer_as (λ found. node_told found.0)) e
@@ -51,7 +51,7 @@ pub returns-clause-told : goal.returns-clause-told
 returns-clause-told c before behind =
     let b = block_shown c.args.in_block in
     let s = c.in_ok-numbers.numbers in
-    let run = first_run (runs_left c.args.self.now) in
+    let run = next_run (runs_left c.args.self.now) in
     let front = front_read before b.head s.id s.lat s.lon c.check_node.result (search rules) (search rules)
     (search rules) (c.check_node.ensures before behind) in
     tagged-is before b s.id s.lat s.lon c.in_ok-id.id c.in_ok-id.place (all_tags c.in_ok-tags.tags) _
