@@ -2,8 +2,10 @@
 
 use crate::job::{JobWords, read_job};
 use crate::refusal::Refusal;
+use crate::usage::usage;
 use crate::usage_word::UsageWord;
 use crate::values::MadeInput;
+use arrayvec::ArrayString;
 use mf_base::kind::List;
 use mf_base::place::{Place, Rect};
 use mf_edge::MemShelf;
@@ -20,7 +22,7 @@ const NAME: &str = "m.toml";
 const ONE_ENTRY: &[u8] = b"[[poi]]\nkey = \"amenity\"\nvalue = \"bench\"\nzoom = 9\n";
 
 const TWO_EQUAL: &[u8] =
-    b"[[poi]]\nkey = \"amenity\"\nvalue = \"bench\"\nzoom = 9\n[[poi]]\nkey = \"amenity\"\nvalue = \"bench\"\nzoom = 5\n";
+    b"[[poi]]\nkey='amenity'\nvalue='bench'\nzoom=9\n[[poi]]\nkey='amenity'\nvalue='bench'\nzoom=5\n";
 
 // Words, the bytes of the file, the calls of the shelf that fail, and the refusal.
 type Case = (
@@ -209,5 +211,152 @@ fn numbers_of_jobs(rt: HostRuntime) -> Result<(), Fail> {
         Some(DEFAULTS)
     );
     assert_eq!(rt; told_by(rt.alloc(), &EVERY)?, Some(ALL_GIVEN));
+    Ok(())
+}
+
+// Words, and the texts that they give: language, comment, creator and folder.
+type Texts = [Option<&'static str>; 4];
+
+const TEXTS: [(&[&str], Texts); 3] = [
+    (&["--poi=a=b@0"], [None, None, None, Some("mfwrite.spill")]),
+    (
+        &[
+            "--created-by=Me",
+            "--language=de,en",
+            "--poi=a=b@0",
+            "--comment=von \u{e4}",
+        ],
+        [
+            Some("de,en"),
+            Some("von \u{e4}"),
+            Some("Me"),
+            Some("mfwrite.spill"),
+        ],
+    ),
+    (
+        &["--poi=a=b@0", "--spill", "a/b", "--comment", "c", "--"],
+        [None, Some("c"), None, Some("a/b")],
+    ),
+];
+
+// Whether a text of the header is the one that is wanted.
+fn is_text(text: &Option<ArrayString<255>>, want: Option<&str>) -> bool {
+    match text {
+        Some(text) => want == Some(text.as_str()),
+        None => want.is_none(),
+    }
+}
+
+// Whether the texts of a job are those that are wanted.
+fn has_texts(job: &JobWords, want: Texts) -> bool {
+    let head = &job.settings.head;
+    is_text(&head.language, want[0])
+        && is_text(&head.comment, want[1])
+        && is_text(&head.created_by, want[2])
+        && want[3] == Some(job.settings.folder.as_str())
+}
+
+#[test]
+fn texts_of_jobs(rt: HostRuntime) -> Result<(), Fail> {
+    for (words, want) in TEXTS {
+        let words = owned(rt.alloc(), words)?;
+        let mut shelf = MemShelf::new(rt.alloc(), NAME, b"", 1, &[])?;
+        match read_job(rt.alloc(), &words, &mut shelf, NOW) {
+            Ok(job) => assert!(rt; has_texts(&job, want), "of {words:?}"),
+            Err(refusal) => assert!(rt; false, "{refusal:?} of {words:?}"),
+        }
+    }
+    Ok(())
+}
+
+// A word behind `--poi=a=b@0`, and the option that refuses it: each value on both sides of its bounds.
+const BOUNDS: [(&str, Option<UsageWord>); 24] = [
+    ("--intervals=0:0:21", None),
+    ("--intervals=0:0:22", Some(UsageWord::Intervals)),
+    ("--intervals=16:16:16", None),
+    ("--intervals=17:16:17", Some(UsageWord::Intervals)),
+    ("--intervals=0:1:7", Some(UsageWord::Intervals)),
+    ("--box=-90000000,-180000000,90000000,180000000", None),
+    ("--box=-90000001,0,0,0", Some(UsageWord::Box)),
+    ("--box=0,-180000001,0,0", Some(UsageWord::Box)),
+    ("--box=0,0,90000001,0", Some(UsageWord::Box)),
+    ("--box=0,0,0,180000001", Some(UsageWord::Box)),
+    ("--box=5,7,5,7", None),
+    ("--box=5,7,4,7", Some(UsageWord::Box)),
+    ("--box=5,7,5,6", Some(UsageWord::Box)),
+    ("--date=0", None),
+    ("--date=-1", Some(UsageWord::Date)),
+    ("--start=-90000000,-180000000", None),
+    ("--start=-90000001,0", Some(UsageWord::Start)),
+    ("--start=0,-180000001", Some(UsageWord::Start)),
+    ("--start=0,180000001", Some(UsageWord::Start)),
+    ("--start-zoom=0", None),
+    ("--start-zoom=-1", Some(UsageWord::StartZoom)),
+    ("--workers=00000000000000000064", None),
+    ("--workers=000000000000000000064", Some(UsageWord::Workers)),
+    ("--make=0,1", None),
+];
+
+#[test]
+fn values_at_their_bounds(rt: HostRuntime) -> Result<(), Fail> {
+    for (word, want) in BOUNDS {
+        let words = owned(rt.alloc(), &["--poi=a=b@0", word])?;
+        assert_eq!(rt; usage(&words), want, "with {word}");
+    }
+    Ok(())
+}
+
+// Words, the front of one more, how many bytes follow it, and the option that is refused.
+type Long = (
+    &'static [&'static str],
+    &'static str,
+    usize,
+    Option<UsageWord>,
+);
+
+const LONG: [Long; 10] = [
+    (&["--poi=a=b@0"], "--language=", 255, None),
+    (
+        &["--poi=a=b@0"],
+        "--language=",
+        256,
+        Some(UsageWord::Language),
+    ),
+    (&["--poi=a=b@0"], "--comment=", 255, None),
+    (
+        &["--poi=a=b@0"],
+        "--comment=",
+        256,
+        Some(UsageWord::Comment),
+    ),
+    (&["--poi=a=b@0"], "--created-by=", 255, None),
+    (
+        &["--poi=a=b@0"],
+        "--created-by=",
+        256,
+        Some(UsageWord::CreatedBy),
+    ),
+    (&["--poi=a=b@0"], "--spill=", 4095, None),
+    (&["--poi=a=b@0"], "--spill=", 4096, Some(UsageWord::Spill)),
+    (&[], "--mapping=", 4095, None),
+    (&[], "--mapping=", 4096, Some(UsageWord::Mapping)),
+];
+
+// A word with so many bytes behind its front.
+fn long_word(alloc: Global, front: &str, size: usize) -> Result<String, AllocError> {
+    let mut word = String::from_str(alloc, front)?;
+    for _ in 0..size {
+        word.push('a')?;
+    }
+    Ok(word)
+}
+
+#[test]
+fn long_values(rt: HostRuntime) -> Result<(), Fail> {
+    for (words, front, size, want) in LONG {
+        let mut words = owned(rt.alloc(), words)?;
+        words.push(long_word(rt.alloc(), front, size)?)?;
+        assert_eq!(rt; usage(&words), want, "for {front} and {size} bytes");
+    }
     Ok(())
 }
