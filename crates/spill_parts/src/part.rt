@@ -70,6 +70,17 @@ impl<K: RowKind> Part<K> {
         self.rows += 1;
     }
 
+    // Rows more.
+    pub(crate) fn add_all(&mut self, rows: &[K])
+        requires known { AllByRecursion (IsOf K.kind) rows.now }
+        requires small { K.kind.width * (length self.old.rows + length rows.now) ≤ part_limit }
+        ensures part { self.new.part ≡ self.old.part }
+        ensures rows { self.new.rows ≡ self.old.rows ++ rows.now }
+    {
+        self.told = self.told.with_all(rows);
+        self.rows += rows.len() as u64;
+    }
+
     // The same part, for who reads it.
     pub(crate) fn same(&self) -> Part<K>
         ensures { result ≡ self.now }

@@ -1,9 +1,11 @@
 //! Who reads a part.
 
-ghost use Rattle.std.specs.Prelude.{◌≡◌, ◌⊎◌, ℕ, ◌+◌, ◌-◌, ◌*◌, ◌<◌, ◌≤◌, ◌^◌, true, false, [], length, take, drop};
-ghost use Rattle.std.specs.Prelude.{Some, None, Ok, IfOk, OnOk, OnErr};
+ghost use Rattle.std.specs.Prelude.{◌≡◌, ◌⊎◌, ℕ, ◌+◌, ◌++◌, ◌-◌, ◌*◌, ◌<◌, ◌≤◌, ◌^◌, true, false, [], length};
+ghost use Rattle.std.specs.Prelude.{take, drop, Some, None, Ok, IfOk, OnOk, OnErr};
+ghost use Rattle.std.specs.List.{AllByRecursion};
 ghost use Rattle.mf_edge.specs.Device.{CountsOne};
 ghost use Rattle.mf_edge.specs.Spill.{SpillState, SameParts, HasBytes, stretch};
+ghost use Rattle.mf_rows.specs.RowKinds.{IsOf, bytes_of, rows_bytes};
 ghost use Rattle.spill_parts.specs.Parts.{PageBytes, IsHeld, IsReading, GivesNext};
 
 use crate::part::Part;
@@ -107,6 +109,58 @@ impl Page {
         let (from, _) = places::<K>(self.rows, waiting, self.room.len());
         K::get(&self.room[from..from + K::WIDTH])
     }
+}
+
+impl Page {
+    // Spells rows into the front of the room, and answers how many bytes they are.
+    pub(crate) fn spell<K: RowKind>(&mut self, rows: &[K]) -> usize
+        requires room { length rows.now ≤ self.old.room }
+        ensures many { result ≡ K.kind.width * length rows.now }
+        ensures within { result ≤ length self.new.bytes }
+        ensures bytes { take result self.new.bytes ≡ rows_bytes K.kind rows.now }
+        ensures known { AllByRecursion (IsOf K.kind) rows.now }
+        ensures same_room { self.new.room ≡ self.old.room }
+    {
+        spell_rows(rows, &mut self.room)
+    }
+
+    // The first bytes of the room.
+    pub(crate) fn front(&self, n: usize) -> &[u8]
+        requires { n ≤ length self.now.bytes }
+        ensures { result.now ≡ take n self.now.bytes }
+    {
+        &self.room[..n]
+    }
+}
+
+// Spells rows into the front of a room, and answers how many bytes they are.
+fn spell_rows<K: RowKind>(rows: &[K], room: &mut [u8]) -> usize
+    requires room { 39 * length rows.now ≤ length room.old }
+    ensures many { result ≡ K.kind.width * length rows.now }
+    ensures within { result ≤ length room.new }
+    ensures bytes { take result room.new ≡ rows_bytes K.kind rows.now }
+    ensures known { AllByRecursion (IsOf K.kind) rows.now }
+    ensures same_length { length room.new ≡ length room.old }
+{
+    let mut at = 0;
+    for row in rows {
+        at = spell_row(row, room, at);
+    }
+    at
+}
+
+// Spells a row at a place of a room, and answers where it ends.
+fn spell_row<K: RowKind>(row: &K, room: &mut [u8], at: usize) -> usize
+    requires room { at + K.kind.width ≤ length room.old }
+    ensures ends { result ≡ at + K.kind.width }
+    ensures bytes { take result room.new ≡ take at room.old ++ bytes_of K.kind row.now }
+    ensures known { IsOf K.kind row.now }
+    ensures same_length { length room.new ≡ length room.old }
+{
+    (*row).known();
+    let end = at + K::WIDTH;
+    row.put(&mut room[at..end]);
+    end
 }
 
 // Reads bytes of a part into a piece of a room.

@@ -3,9 +3,10 @@
 ghost use Rattle.std.specs.Prelude.{◌≡◌, ◌+◌, ◌*◌, ◌<◌, ◌≤◌, true, length, IfOk, OnOk, OnErr};
 ghost use Rattle.mf_edge.specs.Device.{CountsOne};
 ghost use Rattle.mf_edge.specs.Spill.{SameStore, SameParts, TouchesOnly, most_parts, part_limit};
-ghost use Rattle.spill_parts.specs.Parts.{IsHeld, IsBegun, IsPut};
+ghost use Rattle.spill_parts.specs.Parts.{IsHeld, IsBegun, IsPut, ArePut};
 
 use crate::part::Part;
+use crate::reader::Page;
 use mf_edge::{Failed, Spill};
 use mf_rows::kind::RowKind;
 use std::marker::Model;
@@ -67,6 +68,39 @@ impl<K: RowKind> Writer<K> {
         row.put(&mut bytes[..K::WIDTH]);
         spill.append(self.part.number(), &bytes[..K::WIDTH])?;
         self.part.add(row);
+        Ok(())
+    }
+
+    /// Puts rows to the end of the part by one call of the store. They are spelled into the page, in place of what it
+    /// held. After `Failed` the writer is not used again.
+    pub fn put_all<P: Spill>(
+        &mut self,
+        spill: &mut P,
+        rows: &[K],
+        page: &mut Page,
+    ) -> Result<(), Failed>
+        requires started { (P.state spill.old).is_started ≡ true }
+        requires held { IsHeld K.kind self.old (P.state spill.old) }
+        requires room { length rows.now ≤ page.old.room }
+        ensures put { OnOk result (ArePut K.kind rows.now self.old self.new (P.state spill.new)) }
+        ensures small { OnOk result
+            (K.kind.width * length self.old.rows + K.kind.width * length rows.now ≤ part_limit) }
+        ensures same_faults { OnOk result ((P.state spill.new).faults ≡ (P.state spill.old).faults) }
+
+        ensures failed { OnErr result (CountsOne (P.state spill.old).faults (P.state spill.new).faults) }
+
+        ensures within { K.kind.width * length self.old.rows + K.kind.width * length rows.now ≤ part_limit
+            → (P.state spill.new).is_overrun ≡ (P.state spill.old).is_overrun }
+        ensures past { part_limit < K.kind.width * length self.old.rows + K.kind.width * length rows.now
+            → (P.state spill.new).is_overrun ≡ true }
+        ensures same_part { self.new.part ≡ self.old.part }
+        ensures same_room { page.new.room ≡ page.old.room }
+        ensures only { TouchesOnly self.old.part (P.state spill.old) (P.state spill.new) }
+        ensures counts { (P.state spill.old).faults ≤ (P.state spill.new).faults }
+    {
+        let n = page.spell(rows);
+        spill.append(self.part.number(), page.front(n))?;
+        self.part.add_all(rows);
         Ok(())
     }
 
