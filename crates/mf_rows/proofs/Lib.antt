@@ -9,3 +9,4 @@ pub mod Walked
 pub mod ToldLaws
 pub mod KeptLaws
 pub mod Redrawn
+pub mod FirstUnits

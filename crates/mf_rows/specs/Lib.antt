@@ -11,3 +11,4 @@ pub mod Heads
 pub mod RecordUnits
 pub mod Told
 pub mod Desks
+pub mod FirstUnits

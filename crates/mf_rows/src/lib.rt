@@ -4,13 +4,13 @@
 //! is spelled as `specs/Fields` says, a kind as `specs/Kinds`, and `specs/RowKinds` has the laws.
 //!
 //! Then records. A `view` lends one: its `head`, its texts, and its parts, over which `cursors` go. Its points and
-//! parts
-//! are `units` of 16 bytes.
+//! parts are `units` of 16 bytes, and `first_units` has those of its head and texts.
 #![tactic(auto)]
 
 pub mod cursors;
 pub mod desk;
 mod fields;
+pub mod first_units;
 pub mod head;
 pub mod head_units;
 mod heads;

@@ -99,7 +99,7 @@ fn text_at(block: &[u8], span: TextSpan) -> &[u8]
 }
 
 // The first span of a slot.
-fn span_of(spans: &[TextSpan], slot: TextSlot) -> Option<TextSpan>
+pub(crate) fn span_of(spans: &[TextSpan], slot: TextSlot) -> Option<TextSpan>
     ensures { result ≡ find (λ (s : TextSpan). same_slot s.slot slot) spans.now }
 {
     let (first, rest) = spans.split_first()?;
