@@ -10,3 +10,4 @@ pub mod ToldLaws
 pub mod KeptLaws
 pub mod Redrawn
 pub mod FirstUnits
+pub mod HeadAgain

@@ -1,12 +1,16 @@
-//! Laws of the units of parts.
+//! Laws of the units of heads and parts.
 
 ghost use Rattle.std.specs.Prelude.{◌≡◌, ℕ, ◌^◌, ◌<◌, List, Some};
 ghost use Rattle.std.specs.List.{AllByRecursion};
 ghost use Rattle.mf_base.specs.declared.kind.Role.{Role};
 ghost use Rattle.feature_model.specs.Points.{Part};
-ghost use Rattle.std.specs.Prelude.{take, drop, ◌++◌, true};
+ghost use Rattle.std.specs.Prelude.{take, drop, map, [], ◌∷◌, ◌++◌, true};
 ghost use Rattle.mf_rows.specs.Records.{Record};
 ghost use Rattle.mf_rows.specs.RecordUnits.{AreWide, front_count, is_drawn, record_in, redrawn};
+ghost use Rattle.mf_rows.specs.declared.head.Head.{Head};
+ghost use Rattle.mf_rows.specs.declared.head_units.TextLengths.{TextLengths};
+ghost use Rattle.mf_rows.specs.Heads.{head_unit, head_in};
+ghost use Rattle.mf_rows.specs.FirstUnits.{IsHead, AreLengths};
 ghost use Rattle.mf_rows.specs.Units.{Unit16, part_unit, part_in, parts_units, parts_in, IsPart};
 
 /// The unit of a part tells its role and its number of points, and no other unit tells them.
@@ -20,6 +24,13 @@ pub fn part_unit_is_read_back()
 /// The units of parts are read back as these parts.
 pub fn parts_are_read_back()
     ensures { (parts : List Part) → AllByRecursion IsPart parts → parts_in (parts_units parts) ≡ Some parts }
+{}
+
+/// The ten units of a head are read again as this head, with the lengths of its texts.
+pub fn a_head_is_read_back()
+    ensures { (h : Head) (t : TextLengths) → IsHead h → AreLengths t
+        → head_in (map (head_unit h t) (0 ∷ 1 ∷ 2 ∷ 3 ∷ 4 ∷ 5 ∷ 6 ∷ 7 ∷ 8 ∷ 9 ∷ []))
+        ≡ Some (record { head = h; texts = t }) }
 {}
 
 /// Behind its head and texts stands what a record is drawn from, and other units there make another record of them.
