@@ -139,6 +139,64 @@ fn each_of_ten_calls_fails_in_turn(rt: HostRuntime) -> Result<(), Fail> {
     Ok(())
 }
 
+// The first row by itself, and then all by one call, as they are read.
+fn put_at_once<P: Spill, L: Ledger>(
+    spill: &mut P,
+    rows: &[NodeRow],
+    page: &mut Page,
+    blank: Blank,
+    room: &mut [NodeRow],
+) -> Result<usize, Failed>
+    requires ledger { blank.name ≡ L.name }
+    requires parts { blank.parts ≡ L.parts }
+    requires some { 0 < blank.parts }
+    requires name { IsNameOf (codes "rows") (P.state spill.old).name }
+    requires rows { length rows.now ≤ page.old.room }
+    ensures most { IfOk result (λ n. n ≤ length room.new) }
+{
+    let mut steps = Steps::<L>::new(blank);
+    spill.start("rows")?;
+    let mut writer = Writer::make(spill)?;
+    if let Some(first) = rows.first() {
+        writer.put(spill, first)?;
+    }
+    writer.put_all(spill, rows, page)?;
+    let part = writer.finish();
+    rows_of(spill, &part, page, &mut steps, room)
+}
+
+// Whether the rows are read so, after they were put to a store of which one call fails.
+fn are_put_as(
+    alloc: Global,
+    rows: &[NodeRow],
+    found: &[NodeRow],
+    call: u64,
+) -> Result<bool, AllocError>
+    requires { length rows.now ≤ 3 }
+{
+    let mut page = Page::new(alloc, 3)?;
+    let mut store = MemSpill::new(alloc, &[call])?;
+    let mut room = [row(9, 9); 4];
+    match put_at_once::<MemSpill, Brand>(&mut store, rows, &mut page, Blank::new(1), &mut room) {
+        Ok(n) => Ok(&room[..n] == found),
+        Err(Failed) => Ok(false),
+    }
+}
+
+// No row, one, and as many as the page has room for. The calls are start, make, two of append, and two of read.
+#[test]
+fn rows_put_by_one_call(rt: HostRuntime) -> Result<(), Fail> {
+    let rows = [row(7, -1), row(u64::MAX, 5), row(0, 1)];
+    let read = [row(7, -1), row(7, -1), row(u64::MAX, 5), row(0, 1)];
+    assert!(rt; are_put_as(rt.alloc(), &[], &[], 0)?);
+    assert!(rt; are_put_as(rt.alloc(), &rows[..1], &read[..2], 0)?);
+    for call in 1..8 {
+        let answer = are_put_as(rt.alloc(), &rows, &read, call)?;
+        assert_eq!(rt; answer, call == 7, "call {call}");
+    }
+    Ok(())
+}
+
 // Two rows are read by the copy, and then of the copy. What is read as zeros are rows that nobody wrote.
 #[test]
 fn zeros_are_read_as_rows(rt: HostRuntime) -> Result<(), Fail> {
