@@ -2,6 +2,7 @@ pub mod NodeReads
 pub mod ObjectKinds
 pub mod OrderReads
 pub mod BlockTexts
+pub mod StringPlaces
 pub mod BlockTurns
 pub mod DenseNext
 pub mod DenseReads

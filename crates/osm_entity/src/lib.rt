@@ -32,6 +32,8 @@ mod run_end;
 mod sums;
 mod tag_run;
 mod tags;
+#[cfg(test)]
+mod tests;
 pub mod way;
 
 pub use osm_model::faults::EntityFault;
