@@ -2,5 +2,4 @@ pub mod ReadBlobs
 pub mod WholePass
 pub mod BlockPass
 pub mod CountFits
-pub mod PlacedTexts
 pub mod CountNext
