@@ -7,6 +7,7 @@ pub mod Spelled
 pub mod Laws
 pub mod Units
 pub mod Records
+pub mod Shapes
 pub mod Heads
 pub mod RecordUnits
 pub mod Told

@@ -5,7 +5,7 @@ use Rattle.mf_base.specs.declared.kind.Role.{Role}
 use Rattle.feature_model.specs.Points.{Part}
 use Rattle.mf_rows.specs.Units.{Unit16, point_in, part_unit, parts_within, parts_in, shown_part}
 use Rattle.mf_rows.proofs.PartsAgain.{part_told}
-use Rattle.tile_assign.specs.Shapes.{DrawsFeature}
+use Rattle.mf_rows.specs.Shapes.{DrawsFeature}
 
 -- a ring of two points
 abbrev two_points : Role → Unit16 → Unit16 → Part

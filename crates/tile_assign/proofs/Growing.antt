@@ -18,9 +18,9 @@ use Rattle.feature_model.specs.Proper.{AllPlaces}
 use Rattle.map_model.specs.Rectangles.{places_of_shape, rect_of_places, rect_of}
 use Rattle.mf_rows.specs.Records.{Record}
 use Rattle.mf_rows.specs.Units.{shown_part}
-use Rattle.tile_assign.specs.Shapes.{around, with_place, with_points, with_rings, rect_of_rings, AreRings, IsFeature}
+use Rattle.tile_assign.specs.GrowingRects.{around, with_place, with_points, with_rings, rect_of_rings}
 use Rattle.tile_assign.proofs.OnEarth.{from_first, rect-on_earth}
-use Rattle.tile_assign.specs.Shapes.{HasShape, drawn_of, shape_told, feature_told}
+use Rattle.mf_rows.specs.Shapes.{AreRings, IsFeature, HasShape, drawn_of, shape_told, feature_told}
 
 -- one place
 pub one_place : (p : Place) → around p ≡ rect_of_places (p ∷ [])

@@ -13,7 +13,7 @@ use Rattle.feature_model.specs.Inside.{Ring}
 use Rattle.feature_model.specs.Features.{Shape, Block}
 use Rattle.feature_model.specs.Proper.{AllPlaces}
 use Rattle.map_model.specs.Rectangles.{places_of_shape, rect_of_places}
-use Rattle.tile_assign.specs.Shapes.{around, with_place}
+use Rattle.tile_assign.specs.GrowingRects.{around, with_place}
 
 -- ---- a rectangle of places, from the first of them on
 

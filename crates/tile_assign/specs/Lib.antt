@@ -1,2 +1,2 @@
 pub mod ListedIntervals
-pub mod Shapes
+pub mod GrowingRects

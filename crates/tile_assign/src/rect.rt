@@ -4,8 +4,8 @@ ghost use Rattle.std.specs.Prelude.{◌≡◌, IsTrue};
 ghost use Rattle.mf_base.specs.Ranges.{is_on_earth, is_rect};
 ghost use Rattle.feature_model.specs.Proper.{AllPlaces};
 ghost use Rattle.map_model.specs.Rectangles as spec;
-ghost use Rattle.tile_assign.specs.Shapes as shapes;
-ghost use Rattle.tile_assign.specs.Shapes.{feature_told, shape_told, IsFeature, AreRings, DrawsFeature};
+ghost use Rattle.mf_rows.specs.Shapes.{feature_told, shape_told, IsFeature, AreRings, DrawsFeature};
+ghost use Rattle.tile_assign.specs.GrowingRects as growing;
 
 use mf_base::kind::EntityKind;
 use mf_base::place::{Place, Rect};
@@ -31,7 +31,7 @@ pub fn rect_of(view: &View) -> Rect
 // The rectangle of the points of rings.
 fn rect_of_rings(mut rings: RingCursor<'_>) -> Rect
     requires { AreRings rings }
-    ensures { result ≡ shapes.rect_of_rings rings.entry }
+    ensures { result ≡ growing.rect_of_rings rings.entry }
 {
     let (_, mut points) = rings.next().unwrap();
     let (_, place) = points.next().unwrap();
@@ -44,7 +44,7 @@ fn rect_of_rings(mut rings: RingCursor<'_>) -> Rect
 
 // A rectangle that takes in points.
 fn with_points(rect: Rect, mut points: PointCursor<'_>) -> Rect
-    ensures { result ≡ shapes.with_points rect points.entry }
+    ensures { result ≡ growing.with_points rect points.entry }
 {
     let mut all = rect;
     while let Some((_, place)) = points.next() {
@@ -55,7 +55,7 @@ fn with_points(rect: Rect, mut points: PointCursor<'_>) -> Rect
 
 // The rectangle of one place.
 fn around(place: Place) -> Rect
-    ensures { result ≡ shapes.around place }
+    ensures { result ≡ growing.around place }
 {
     Rect {
         min_lat: place.lat,
@@ -67,7 +67,7 @@ fn around(place: Place) -> Rect
 
 // A rectangle that takes in a place.
 fn with_place(rect: Rect, place: Place) -> Rect
-    ensures { result ≡ shapes.with_place rect place }
+    ensures { result ≡ growing.with_place rect place }
 {
     Rect {
         min_lat: rect.min_lat.min(place.lat),

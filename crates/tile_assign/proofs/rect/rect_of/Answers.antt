@@ -1,7 +1,7 @@
 use Rattle.std.proofs.Common.{◌≡◌, ◌⊎◌, ◌∙◌, sym, ap, subst}
 use Rattle.mf_base.specs.declared.kind.EntityKind.{EntityKind}
 use Rattle.mf_rows.specs.declared.head.Head.{Head}
-use Rattle.tile_assign.specs.Shapes as shapes
+use Rattle.tile_assign.specs.GrowingRects as growing
 use Rattle.tile_assign.proofs.Growing.{rect-of_node, rect-of_way, earth-told}
 use Rattle.tile_assign.proofs.rect.rect_of.Goals as goal
 
@@ -16,5 +16,5 @@ returns-in-Way c =
     let kind = subst (λ (h : Head). (h.kind ≡ EntityKind.Way) ⊎ (h.kind ≡ EntityKind.Relation)) c.head.ensures
     c.in-Way.is in
     let rect = rect-of_way c.args.view.now c.rect_of_rings.result c.requires.feature kind
-    (c.rect_of_rings.ensures ∙ ap shapes.rect_of_rings c.rings.ensures) in
+    (c.rect_of_rings.ensures ∙ ap growing.rect_of_rings c.rings.ensures) in
     record { rect = rect; on_earth = earth-told c.args.view.now c.rect_of_rings.result rect }

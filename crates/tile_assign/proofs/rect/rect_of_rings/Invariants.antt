@@ -1,5 +1,5 @@
 use Rattle.std.proofs.Common.{◌≡◌, length}
-use Rattle.tile_assign.specs.Shapes.{with_rings, rect_of_rings}
+use Rattle.tile_assign.specs.GrowingRects.{with_rings, rect_of_rings}
 use Rattle.tile_assign.proofs.rect.rect_of_rings.Given as goal
 
 abbrev pub invariant-loop-points : goal.invariant-loop-points

@@ -1,5 +1,5 @@
 use Rattle.std.proofs.Common.{◌≡◌, length}
-use Rattle.tile_assign.specs.Shapes.{with_points}
+use Rattle.tile_assign.specs.GrowingRects.{with_points}
 use Rattle.tile_assign.proofs.rect.with_points.Given as goal
 
 abbrev pub invariant-loop-place : goal.invariant-loop-place

@@ -1,20 +1,17 @@
 -- The feature that a record of a desk is, once its rings are joined: this project's own.
-use Rattle.std.specs.Prelude.{◌≡◌, ◌≤◌, List, [], ◌∷◌, length, fold, flat_map, Option, Some, None, IsSome, IsTrue}
-use Rattle.std.specs.Int.{int_min, int_max}
+use Rattle.std.specs.Prelude.{◌≡◌, ◌≤◌, pos, List, [], ◌∷◌, length, Option, Some, None, IsSome, IsTrue}
 use Rattle.std.specs.List.{AllByRecursion}
 use Rattle.mf_base.specs.declared.place.Place.{Place}
-use Rattle.mf_base.specs.declared.place.Rect.{Rect}
 use Rattle.mf_base.specs.declared.kind.EntityKind.{EntityKind}
 use Rattle.feature_model.specs.Points.{Point, Part}
-use Rattle.feature_model.specs.Blocks.{places, is_outer, blocks_in}
+use Rattle.feature_model.specs.Blocks.{is_outer, blocks_in}
 use Rattle.feature_model.specs.Features.{Shape, drawn_blocks, Feature, feature_of}
-use Rattle.map_model.specs.Rectangles.{origin, rect_of_places}
 use Rattle.mf_rows.specs.Units.{Unit16}
 use Rattle.mf_rows.specs.Records.{Record, candidate_told, spot_in, drawn_parts}
 
 -- the place of a point, and (0, 0) where there is none yet
 abbrev pub spot_place : Option Point → Place
-spot_place None = origin
+spot_place None = record { lat = pos 0; lon = pos 0 }
 spot_place (Some p) = p.place
 
 -- what is drawn of a kind: a node's place, or the blocks that the parts make
@@ -54,30 +51,3 @@ IsFeature r = HasShape r.head.kind r.spot r.parts
 abbrev pub DrawsFeature : EntityKind → List Unit16 → Type 0
 DrawsFeature kind units = (all : List Part) × (drawn_parts kind units ≡ Some all)
     × HasShape kind (spot_in kind units) all
-
--- ---- rectangles that grow
-
--- the rectangle of one place
-abbrev pub around : Place → Rect
-around p = record { min_lat = p.lat; min_lon = p.lon; max_lat = p.lat; max_lon = p.lon }
-
--- a rectangle that takes in a place
-abbrev pub with_place : Rect → Place → Rect
-with_place r p = record {
-  min_lat = int_min r.min_lat p.lat;
-  min_lon = int_min r.min_lon p.lon;
-  max_lat = int_max r.max_lat p.lat;
-  max_lon = int_max r.max_lon p.lon;
-}
-
--- a rectangle that takes in points
-abbrev pub with_points : Rect → List Point → Rect
-with_points r points = fold (λ a (p : Point). with_place a p.place) r points
-
--- a rectangle that takes in the points of rings
-abbrev pub with_rings : Rect → List Part → Rect
-with_rings r rings = fold (λ a (part : Part). with_points a part.points) r rings
-
--- the rectangle of the points of rings
-abbrev pub rect_of_rings : List Part → Rect
-rect_of_rings rings = rect_of_places (flat_map (λ (part : Part). places part.points) rings)
