@@ -1,11 +1,10 @@
 -- Turns over the groups of a block.
-use Rattle.std.proofs.Common.{◌≡◌, ◌∙◌, ◌∷◌, ◌++◌, ℕ, List, [], Option, Some, None, Result, Ok, Err, ap, refl, sym}
+use Rattle.std.proofs.Common.{◌≡◌, ◌∙◌, ◌∷◌, ◌++◌, List, [], Option, None, Result, Ok, Err, ap, refl, sym}
 use Rattle.std.proofs.Common.{subst}
-use Rattle.std.specs.Prelude.{flat_map}
 use Rattle.osm_model.specs.declared.faults.EntityFault.{EntityFault}
 use Rattle.osm_model.specs.Entities as entities
 use Rattle.osm_model.specs.Objects.{Object}
-use Rattle.osm_entity.specs.EntityViews.{GivesObject, HasFault}
+use Rattle.osm_entity.specs.EntityViews.{GivesObject}
 use Rattle.osm_entity.specs.Groups.{TurnsGroup}
 use Rattle.osm_entity.specs.declared.group.Turn.{Turn}
 use Rattle.osm_entity.specs.declared.entity.Entity.{Entity}

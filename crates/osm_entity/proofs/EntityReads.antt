@@ -1,18 +1,18 @@
 -- The entities of a block, one after another.
-use Rattle.std.proofs.Common.{◌≡◌, ◌∙◌, ◌∷◌, ◌++◌, ◌||◌, ℕ, ℤ, List, [], Bool, true, false, Option, Some, None}
+use Rattle.std.proofs.Common.{◌≡◌, ◌∙◌, ◌∷◌, ◌++◌, ℕ, List, [], false, Option, Some, None}
 use Rattle.std.proofs.Common.{Result, Ok}
-use Rattle.std.proofs.Common.{Err, ap, refl, sym, subst, cond}
+use Rattle.std.proofs.Common.{◌<◌, length, arith}
+use Rattle.std.proofs.Common.{Err, ap, refl, sym, subst}
 use Rattle.std.specs.Prelude.{flat_map}
-use Rattle.mf_base.specs.Steps.{◌>>=◌, told_as, refuse}
+use Rattle.mf_base.specs.Steps.{◌>>=◌, told_as}
 use Rattle.mf_base.specs.Texts.{Text}
-use Rattle.mf_base.proofs.StepLaws.{bind_ok, ok_is, told_ok, err_is_no_ok, refuse_ok}
+use Rattle.mf_base.proofs.StepLaws.{bind_ok, ok_is, told_ok, err_is_no_ok}
 use Rattle.osm_model.specs.declared.faults.BlockFault.{BlockFault}
 use Rattle.osm_model.specs.declared.faults.BlockFault.TheVariants as block_faults
 use Rattle.osm_model.specs.declared.faults.MessageFault.{MessageFault}
 use Rattle.osm_model.specs.declared.faults.EntityFault.{EntityFault}
 use Rattle.osm_model.specs.declared.tables.TheConstants.{PRIMITIVE_BLOCK}
 use Rattle.osm_model.specs.declared.numbers.TheConstants.{BLOCK_PRIMITIVEGROUP}
-use Rattle.osm_model.specs.declared.rules.FieldRule.{FieldRule}
 use Rattle.osm_model.specs.Reading.{then_reads, stops_at}
 use Rattle.osm_model.specs.Wire.{Field, fields, fields_behind}
 use Rattle.osm_model.specs.Tables.{message, message_fault, bytes_of, Table}
@@ -20,9 +20,8 @@ use Rattle.osm_model.specs.Blocks.{BlockHead, PrimitiveBlock, block, block_head,
 use Rattle.osm_model.specs.Blocks.{strings_of}
 use Rattle.osm_model.specs.Entities as entities
 use Rattle.osm_model.specs.Objects.{Object, block_objects, group_objects, field_objects}
-use Rattle.osm_model.specs.Order.{in_order, order_fault, has_later_kind, entity_behind}
+use Rattle.osm_model.specs.Order.{in_order, has_later_kind}
 use Rattle.osm_model.proofs.OrderLaws.{in_order-err, in_order-refused, in_order-next}
-use Rattle.osm_entity.specs.Answers.{placed}
 use Rattle.osm_entity.specs.InBlock.{texts_at}
 use Rattle.osm_entity.specs.EntityViews.{entity_told, IsFirst, HasFault, GivesObject}
 use Rattle.osm_entity.specs.BlockEntities.{groups_in, left_or_fault}
@@ -180,6 +179,7 @@ pub record NextEntity (before : List entities.Entity) (left rest : List (Result 
     : Type 0 where
   pub reads : in_order before left ≡ then_reads (entity_told e) (in_order (before ++ entity_told e ∷ []) rest)
   pub later : has_later_kind (entities.kind_of (entity_told e)) before ≡ false
+  pub shorter : length rest < length left
 
 pub next-entity : (before : List entities.Entity) (o p : Option EntityFault)
     (left rest : List (Result Object EntityFault)) (e : Entity) (f : Option Entity) → o ≡ None → p ≡ None → f ≡ Some e
@@ -190,6 +190,7 @@ next-entity before o p left rest e f is_o is_p is_f told =
     (subst (λ p. NextEntity before left (left_or_fault p rest) e) (sym is_p) (record {
       reads = reads-first before left rest e first;
       later = first.3;
+      shorter = omega (arith, ap length first.1);
     }))
 
 pub next-fault : (before : List entities.Entity) (o : Option EntityFault) (left : List (Result Object EntityFault))

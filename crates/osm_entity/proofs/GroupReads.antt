@@ -1,7 +1,7 @@
 -- The objects of a group, field by field.
-use Rattle.std.proofs.Common.{◌≡◌, ◌∙◌, ◌∷◌, ◌++◌, ◌<◌, ◌+◌, ◌*◌, ℕ, List, [], Option, Some, None, Result, Ok, Err}
-use Rattle.std.proofs.Common.{ap, refl}
-use Rattle.std.proofs.Common.{sym, subst, length, append-nil, arith}
+use Rattle.std.proofs.Common.{◌≡◌, ◌∷◌, ◌++◌, ℕ, List, [], Result}
+use Rattle.std.proofs.Common.{ap}
+use Rattle.std.proofs.Common.{sym, subst}
 use Rattle.std.specs.Prelude.{flat_map}
 use Rattle.osm_model.specs.declared.faults.EntityFault.{EntityFault}
 use Rattle.osm_model.specs.declared.numbers.TheConstants.{GROUP_DENSE}
@@ -10,7 +10,6 @@ use Rattle.osm_model.specs.Wire.{fields}
 use Rattle.osm_model.specs.Blocks.{PrimitiveBlock}
 use Rattle.osm_model.specs.Entities as entities
 use Rattle.osm_model.specs.Objects.{Object, field_objects, objects_at, dense_objects}
-use Rattle.osm_entity.specs.Answers.{placed}
 use Rattle.osm_entity.specs.EntityViews.{IsFirst, HasFault}
 use Rattle.osm_entity.specs.Groups.{objects_in}
 use Rattle.osm_entity.specs.declared.entity.Entity.{Entity}

@@ -1,9 +1,7 @@
 -- Turns over a group, and the kinds of its fields.
-use Rattle.std.proofs.Common.{◌≡◌, ◌∙◌, ◌∷◌, ◌++◌, ◌&&◌, ℕ, List, [], Bool, true, false, Option, Some, None, Result}
+use Rattle.std.proofs.Common.{◌≡◌, ◌∙◌, ◌∷◌, ℕ, List, [], true, false, Option, Some, None, Result}
 use Rattle.std.proofs.Common.{Ok, Err}
-use Rattle.std.proofs.Common.{ap, refl, sym, subst, map, cond}
-use Rattle.std.specs.Prelude.{filter, nat_le}
-use Rattle.std.specs.List.{list_all}
+use Rattle.std.proofs.Common.{ap, refl, subst}
 use Rattle.osm_model.specs.declared.faults.EntityFault.{EntityFault}
 use Rattle.osm_model.specs.declared.faults.EntityFault.TheVariants as faults
 use Rattle.osm_model.specs.declared.faults.MessageFault.{MessageFault}
@@ -12,7 +10,7 @@ use Rattle.osm_model.specs.Wire.{Field, fields}
 use Rattle.osm_model.specs.Tables.{message, message_fault}
 use Rattle.osm_model.specs.Blocks.{PrimitiveBlock}
 use Rattle.osm_model.specs.Entities as entities
-use Rattle.osm_model.specs.Objects.{Object, field_objects, group_objects, kinds_in, are_one}
+use Rattle.osm_model.specs.Objects.{Object, group_objects, kinds_in, are_one}
 use Rattle.osm_entity.specs.Groups.{TurnsGroup, objects_in}
 use Rattle.osm_entity.specs.GroupKinds.{is_kind, are_one_with}
 use Rattle.osm_entity.specs.declared.group.Turn.{Turn}

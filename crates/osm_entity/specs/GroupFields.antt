@@ -1,13 +1,9 @@
 -- What a field of a group has, in the words of the definitions. This project's own.
-use Rattle.std.specs.Prelude.{◌≡◌, ⊤, List, ℕ, [], ◌∷◌, Option, Some, None, Result, Ok, Err}
+use Rattle.std.specs.Prelude.{◌≡◌, ⊤, List, ℕ, [], Result, Ok, Err}
 use Rattle.osm_model.specs.declared.faults.EntityFault.{EntityFault}
-use Rattle.osm_model.specs.Wire as wire
-use Rattle.osm_model.specs.Wire.{fields}
 use Rattle.osm_model.specs.Blocks.{PrimitiveBlock}
 use Rattle.osm_model.specs.Entities as entities
 use Rattle.osm_model.specs.Objects.{Object}
-use Rattle.pbf_wire.specs.Shown.{ShowsField}
-use Rattle.pbf_wire.specs.declared.fields.Field.{Field}
 use Rattle.osm_entity.specs.Dense.{dense_left}
 use Rattle.osm_entity.specs.EntityViews.{entity_block, IsFirst, HasFault}
 use Rattle.osm_entity.specs.declared.group_field.Read.{Read}

@@ -1,5 +1,5 @@
 -- The objects of a group that are left, in the words of the definitions. This project's own.
-use Rattle.std.specs.Prelude.{◌≡◌, ⊤, List, ℕ, [], ◌∷◌, ◌++◌, ◌+◌, ◌*◌, length, flat_map, Option, Some, None, Result}
+use Rattle.std.specs.Prelude.{◌≡◌, ⊤, List, ℕ, [], ◌++◌, ◌+◌, ◌*◌, length, flat_map, Option, Some, None, Result}
 use Rattle.std.specs.Prelude.{Ok, Err}
 use Rattle.osm_model.specs.declared.faults.EntityFault.{EntityFault}
 use Rattle.osm_model.specs.Wire.{fields}

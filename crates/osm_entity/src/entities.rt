@@ -65,6 +65,8 @@ impl<'a> Entities<'a> {
     pub fn next(&mut self, order: &mut Order) -> Result<Option<Entity<'a>>, EntityFault>
         ensures gives { (before : List entities.Entity) → StandsBehind before order.old
             → GivesEntity before (objects_left self.old) order.old result (objects_left self.new) order.new }
+        ensures shorter { IfOk result (λ next. IfSome next (λ _.
+            length (objects_left self.new) < length (objects_left self.old))) }
         ensures lent { IfOk result (λ next. IfSome next (λ e. entity_block e ≡ block_read self.old)) }
         ensures block { block_read self.new ≡ block_read self.old }
     {

@@ -1,9 +1,9 @@
 //! The order behind one entity more.
 
-ghost use Rattle.std.specs.Prelude.{◌≡◌, ◌++◌, ◌∷◌, [], List, false};
+ghost use Rattle.std.specs.Prelude.{◌≡◌, ◌≤◌, ◌++◌, ◌∷◌, [], List, false};
 ghost use Rattle.osm_model.specs.Entities as entities;
 ghost use Rattle.osm_model.specs.Entities.{kind_of};
-ghost use Rattle.osm_model.specs.Order.{has_later_kind};
+ghost use Rattle.osm_model.specs.Order.{has_later_kind, rank};
 ghost use Rattle.osm_entity.specs.Order.{StandsBehind};
 ghost use Rattle.osm_entity.specs.EntityViews.{entity_told};
 
@@ -13,6 +13,7 @@ use mf_base::kind::EntityKind;
 
 // One entity more, whose kind is none before the last.
 pub(crate) fn note(entity: Entity, order: &mut Order)
+    requires { rank order.old.kind ≤ rank (kind_of (entity_told entity)) }
     ensures { (before : List entities.Entity) → StandsBehind before order.old
         → has_later_kind (kind_of (entity_told entity.entry)) before ≡ false
         → StandsBehind (before ++ entity_told entity.entry ∷ []) order.new }

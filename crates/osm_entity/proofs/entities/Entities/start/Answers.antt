@@ -1,6 +1,5 @@
-use Rattle.std.proofs.Common.{refl, sym, ap, ◌∙◌}
+use Rattle.std.proofs.Common.{◌∙◌}
 use Rattle.pbf_block.specs.Head.{head_told}
-use Rattle.osm_entity.specs.InBlock.{texts_at}
 use Rattle.osm_entity.proofs.EntityReads.{all-objects, shown-is, empty-first}
 use Rattle.osm_entity.proofs.entities.Entities.start.Goals as goal
 

@@ -1,7 +1,7 @@
 use Rattle.std.proofs.Common.{◌≡◌, ap, rules, Err, ◌++◌, subst, Ok}
 use Rattle.osm_entity.specs.InBlock.{block_shown}
 use Rattle.osm_entity.specs.Groups.{group_left}
-use Rattle.osm_entity.specs.BlockEntities.{groups_in, GivesNextGroup, unread}
+use Rattle.osm_entity.specs.BlockEntities.{groups_in, GivesNextGroup}
 use Rattle.osm_entity.proofs.BlockTurns.{none_left, group-faults, both-none, next-all}
 use Rattle.osm_entity.proofs.entities.Entities.turn.Goals as goal
 
