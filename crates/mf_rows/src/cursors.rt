@@ -1,6 +1,7 @@
 //! Cursors over the parts of a record, and over the points of a part.
 
-ghost use Rattle.std.specs.Prelude.{◌≡◌, [], ◌∷◌, Some, IsSome, IsNone, IfSome, drop, map, slice_get, option_map};
+ghost use Rattle.std.specs.Prelude.{◌≡◌, [], ◌∷◌, Some, IsSome, IsNone, IfSome, drop, length, map, slice_get};
+ghost use Rattle.std.specs.Prelude.{option_map};
 ghost use Rattle.feature_model.specs.Points.{Point};
 ghost use Rattle.mf_rows.specs.Units.{point_in, parts_in, with_part, shown_part};
 
@@ -31,6 +32,13 @@ impl<'a> PointCursor<'a> {
         ensures { result ≡ map point_in units.now }
     {
         PointCursor { units }
+    }
+
+    /// How many points are left.
+    pub fn len(&self) -> usize
+        ensures { result ≡ length self.now }
+    {
+        self.units.len()
     }
 
     /// The next point: the id of a node, and its place. None after the last.
