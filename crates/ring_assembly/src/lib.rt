@@ -1,0 +1,4 @@
+//! Rings: whether a place is inside them.
+#![tactic(auto)]
+
+pub mod inside;
