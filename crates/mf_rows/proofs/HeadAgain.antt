@@ -1,12 +1,13 @@
 -- The units of a head are read again as this head.
-use Rattle.std.proofs.Common.{◌≡◌, ℕ, zero, suc, ◌+◌, ◌^◌, ◌≤◌, ◌<◌, Bool, true, false, List, [], ◌∷◌, ◌++◌}
+use Rattle.std.proofs.Common.{◌≡◌, ◌⊎◌, inl, inr, ℕ, zero, suc, ◌+◌, ◌^◌, ◌≤◌, ◌<◌, Bool, true, false, List, [], ◌∷◌, ◌++◌}
 use Rattle.std.proofs.Common.{length, take, map, Option, Some, None, refl, sym, ap, ◌∙◌, arith, append_assoc}
-use Rattle.std.specs.Prelude.{ℤ, slice_get, bytes_eq, flat_map, if◌then◌else◌}
+use Rattle.std.specs.Prelude.{ℤ, slice_get, bytes_eq, flat_map, if◌then◌else◌, unwrap_or}
 use Rattle.std.specs.List.{AllByRecursion}
 use Rattle.std.specs.Int.{w8, w16, w32, cast_signed, cast_unsigned}
 use Rattle.std.proofs.Math.Nat.{mod-eq_of_lt}
 use Rattle.std.proofs.Math.Facts.{Fits-of_z}
 use Rattle.std.proofs.lemmas.Int.{to_z-of_z}
+use Rattle.std.proofs.lemmas.Bool.{cases_Bool}
 use Rattle.std.proofs.lemmas.Slice.Eq.{bytes_eq-Decides}
 use Rattle.mf_base.specs.declared.kept.Kept.{Kept}
 use Rattle.mf_base.specs.declared.kept.KeptValue.{KeptValue}
@@ -350,3 +351,47 @@ module _ (h : Head) (t : TextLengths) (is : IsHead h) (lengths : AreLengths t) w
       ≡ Some (record { head = h; texts = t })
   head-again = found-head (f 0) (f 1) (f 2) (f 3 ∷ f 4 ∷ f 5 ∷ f 6 ∷ f 7 ∷ f 8 ∷ f 9 ∷ [])
       (record { head = h; texts = t }) ten-told (ten-same f)
+
+-- ---- no other units are read as a head
+
+-- so many units from one on
+abbrev units_by : (ℕ → Unit16) → (from count : ℕ) → List Unit16
+units_by f k zero = []
+units_by f k (suc n) = f k ∷ units_by f (suc k) n
+
+are-these : (f : ℕ → Unit16) (k : ℕ) (us : List Unit16) → are_units f k us ≡ true → us ≡ units_by f k (length us)
+are-these f k [] is = refl
+are-these f k (u ∷ us) is = by_test (cases_Bool (bytes_eq u (f k))) (are-these f (suc k) us)
+  where
+    by_test : (bytes_eq u (f k) ≡ true) ⊎ (bytes_eq u (f k) ≡ false)
+        → (are_units f (suc k) us ≡ true → us ≡ units_by f (suc k) (length us))
+        → u ∷ us ≡ f k ∷ units_by f (suc k) (length us)
+    by_test (inl e) again =
+        let more : are_units f (suc k) us ≡ true = sym (rw e refl) ∙ is in
+        ap (λ v. v ∷ us) ((bytes_eq-Decides u (f k)).0 e) ∙ ap (λ vs. f k ∷ vs) (again more)
+    by_test (inr e) again = let no : false ≡ true = sym (rw e refl) ∙ is in cc
+
+pub head-only : (us : List Unit16) (t : HeadTold) → length us ≡ 10 → head_in us ≡ Some t
+    → us ≡ map (head_unit t.head t.texts) (0 ∷ 1 ∷ 2 ∷ 3 ∷ 4 ∷ 5 ∷ 6 ∷ 7 ∷ 8 ∷ 9 ∷ [])
+unfolding head_in
+head-only [] t long is = cc
+head-only (a ∷ []) t long is = cc
+head-only (a ∷ b ∷ []) t long is = cc
+head-only (a ∷ b ∷ c ∷ us) t long is =
+    by_test (cases_Bool (are_units (head_unit told.head told.texts) 0 (a ∷ b ∷ c ∷ us)))
+  where
+    told : HeadTold
+    told = told_by a b c us
+
+    all : List Unit16
+    all = a ∷ b ∷ c ∷ us
+
+    by_test : (are_units (head_unit told.head told.texts) 0 all ≡ true)
+        ⊎ (are_units (head_unit told.head told.texts) 0 all ≡ false)
+        → all ≡ map (head_unit t.head t.texts) (0 ∷ 1 ∷ 2 ∷ 3 ∷ 4 ∷ 5 ∷ 6 ∷ 7 ∷ 8 ∷ 9 ∷ [])
+    by_test (inl e) =
+        let found : Some told ≡ Some t = sym (rw e refl) ∙ is in
+        are-these (head_unit told.head told.texts) 0 all e
+        ∙ ap (units_by (head_unit told.head told.texts) 0) long
+        ∙ ap (λ (h : HeadTold). units_by (head_unit h.head h.texts) 0 10) (ap (λ o. unwrap_or o told) found)
+    by_test (inr e) = let none : ◌≡◌ {A = Option HeadTold} None (Some t) = sym (rw e refl) ∙ is in cc

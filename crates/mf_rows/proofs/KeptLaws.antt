@@ -9,7 +9,8 @@ use Rattle.std.proofs.lemmas.List.{take-append-le, drop-append-le, drop-take}
 use Rattle.mf_rows.specs.Units.{Unit16}
 use Rattle.mf_rows.specs.Records.{Record}
 use Rattle.mf_rows.specs.RecordUnits.{record_in, unit_count}
-use Rattle.mf_rows.specs.Told.{record_told, record_at, units_at, IsTold, IsKept, AreKept}
+use Rattle.mf_rows.specs.Heads.{head_in}
+use Rattle.mf_rows.specs.Told.{head_told, record_told, record_at, units_at, IsTold, IsKept, AreKept}
 use Rattle.mf_rows.specs.Desks.{Desktop, units_in, used, IsLoosened}
 use Rattle.mf_rows.specs.declared.told.Told.{Told}
 use Rattle.mf_rows.specs.declared.told.Kept.{Kept}
@@ -78,6 +79,7 @@ module _ (units later : List Unit16) (end : ℕ) (same : take end units ≡ take
   stays-one at k is within = record {
     first = is.first;
     head = is.head;
+    read = subst (λ us. head_in (take 10 us) ≡ Some (head_told k.told)) (same-units at k is within) is.read;
     within = omega (arith, within, enough);
     told = subst (λ us. IsTold k.told (drop 10 us) (record_in us)) (same-units at k is within) is.told;
   }
@@ -227,7 +229,8 @@ module _ (units : List Unit16) (kept : List Kept) (closed cap : ℕ) (d : Deskto
 
     -- the loose units become a record
     module _ (told : Told) (rest : List Unit16) (rest-is : rest ≡ drop closed units)
-        (is_told : IsTold told (drop 10 rest) (record_in rest)) (ten : 10 ≤ length rest) where
+        (is_told : IsTold told (drop 10 rest) (record_in rest)) (ten : 10 ≤ length rest)
+        (read : head_in (take 10 rest) ≡ Some (head_told told)) where
       abbrev made : Kept
       made = record { told = told; first = closed; count = length units - closed }
 
@@ -240,6 +243,7 @@ module _ (units : List Unit16) (kept : List Kept) (closed cap : ℕ) (d : Deskto
         first = refl;
         head = let some : 10 ≤ length (drop closed units) = subst (λ us. 10 ≤ length us) rest-is ten in
             omega (arith, some, length-drop closed units);
+        read = subst (λ us. head_in (take 10 us) ≡ Some (head_told told)) (sym made-units) read;
         within = omega (arith, within);
         told = subst (λ us. IsTold told (drop 10 us) (record_in us)) (sym made-units) is_told;
       }
@@ -285,13 +289,13 @@ module _ (units : List Unit16) (kept : List Kept) (closed cap : ℕ) (d : Deskto
 
     -- the last record becomes loose units
     module _ (none : d.loose ≡ []) (front : List Kept) (k : Kept) (last : kept ≡ front ++ k ∷ []) where
-      parted : AreKept units 0 front k.first × IsKept units k.first k × (k.first + k.count ≡ closed)
+      pub parted : AreKept units 0 front k.first × IsKept units k.first k × (k.first + k.count ≡ closed)
       parted = last-kept units 0 closed front k (subst (λ ks. AreKept units 0 ks closed) last is)
 
       pub front-kept : AreKept units 0 front k.first
       front-kept = parted.0
 
-      all-closed : length units ≡ closed
+      pub all-closed : length units ≡ closed
       all-closed =
           let empty : length (drop closed units) ≡ 0 = ap length (sym loose-is ∙ none) in
           omega (arith, empty, within, length-drop closed units)

@@ -11,3 +11,7 @@ pub mod KeptLaws
 pub mod Redrawn
 pub mod FirstUnits
 pub mod HeadAgain
+pub mod LastPart
+pub mod Changed
+pub mod FeatureSet
+pub mod LastRecord

@@ -64,6 +64,10 @@ part_alone unit role points is = by_outer (cases_Bool (bytes_eq unit (part_unit 
         ∙ same_unit Role.Outer n (sym (rw e refl) ∙ is)
     by_outer (inr e) = by_inner e (cases_Bool (bytes_eq unit (part_unit Role.Inner n)))
 
+-- the unit of a point tells it
+pub point_again : (p : Point) (u : Unit16) → u ≡ point_unit p → IsOf node_kind (row_of_point p) → point_in u ≡ p
+point_again p u is row = ap point_in is ∙ ap point_of_row (node-laws.reads_back (row_of_point p) row)
+
 points_again : (points : List Point) → AllByRecursion (λ (q : Point). IsOf node_kind (row_of_point q)) points
     → map point_in (map point_unit points) ≡ points
 points_again [] all = refl

@@ -16,21 +16,21 @@ use Rattle.mf_rows.proofs.ToldLaws.{text-count}
 use Rattle.mf_rows.proofs.KeptLaws.{front-of}
 
 -- the units of a text, by a head
-abbrev count_of : HeadTold → ℕ
+abbrev pub count_of : HeadTold → ℕ
 count_of t = units_for (sizes_total (slot_sizes t))
 
 -- What is known of units that spell a record.
-record IsSpelled (units : List Unit16) (r : Record) : Type 0 where
-  t : HeadTold
-  ten : 10 ≤ length units
-  head : head_in (take 10 units) ≡ Some t
-  holds : is_behind t (drop 10 units) ≡ true
-  same : record_of t (count_of t) (drop 10 units) ≡ r
+pub record IsSpelled (units : List Unit16) (r : Record) : Type 0 where
+  pub t : HeadTold
+  pub ten : 10 ≤ length units
+  pub head : head_in (take 10 units) ≡ Some t
+  pub holds : is_behind t (drop 10 units) ≡ true
+  pub same : record_of t (count_of t) (drop 10 units) ≡ r
 
 some_is : (a b : Record) → Some a ≡ Some b → a ≡ b
 some_is a b e = ap (λ o. unwrap_or o a) e
 
-spelled : (units : List Unit16) (r : Record) → record_in units ≡ Some r → IsSpelled units r
+pub spelled : (units : List Unit16) (r : Record) → record_in units ≡ Some r → IsSpelled units r
 unfolding record_in
 spelled units r is = by_room (cases_Bool (nat_le 10 (length units)))
   where
@@ -56,69 +56,51 @@ spelled units r is = by_room (cases_Bool (nat_le 10 (length units)))
     by_room (inl e) = by_head (head_in (take 10 units)) (leb-true 10 (length units) e) refl (sym (rw e refl) ∙ is)
     by_room (inr e) = let none : ◌≡◌ {A = Option Record} None (Some r) = sym (rw e refl) ∙ is in cc
 
-module _ (units : List Unit16) (r : Record) (wide : AreWide units) (is : record_in units ≡ Some r) where
-  abbrev s : IsSpelled units r
-  s = spelled units r is
-
+-- units that spell the record of a head
+module _ (units : List Unit16) (t : HeadTold) (ten : 10 ≤ length units) (head : head_in (take 10 units) ≡ Some t)
+    (holds : is_behind t (drop 10 units) ≡ true) where
   abbrev n : ℕ
-  n = count_of s.t
+  n = count_of t
 
   abbrev rest : List Unit16
   rest = drop 10 units
 
   abbrev zeros : Bool
-  zeros = are_zeros (drop (sizes_total (slot_sizes s.t)) (bytes_in (take n rest)))
+  zeros = are_zeros (drop (sizes_total (slot_sizes t)) (bytes_in (take n rest)))
 
-  drawn-holds : is_drawn s.t.head.kind (drop n rest) ≡ true
-  drawn-holds = (and_parts _ (is_drawn s.t.head.kind (drop n rest)) s.holds).1
+  pub drawn-holds : is_drawn t.head.kind (drop n rest) ≡ true
+  drawn-holds = (and_parts _ (is_drawn t.head.kind (drop n rest)) holds).1
 
-  first-three : (are_sizes s.t && nat_le n (length rest) && zeros) ≡ true
-  first-three = (and_parts _ (is_drawn s.t.head.kind (drop n rest)) s.holds).0
+  first-three : (are_sizes t && nat_le n (length rest) && zeros) ≡ true
+  first-three = (and_parts _ (is_drawn t.head.kind (drop n rest)) holds).0
 
   zeros-hold : zeros ≡ true
-  zeros-hold = (and_parts (are_sizes s.t && nat_le n (length rest)) zeros first-three).1
+  zeros-hold = (and_parts (are_sizes t && nat_le n (length rest)) zeros first-three).1
 
-  first-two : (are_sizes s.t && nat_le n (length rest)) ≡ true
-  first-two = (and_parts (are_sizes s.t && nat_le n (length rest)) zeros first-three).0
+  first-two : (are_sizes t && nat_le n (length rest)) ≡ true
+  first-two = (and_parts (are_sizes t && nat_le n (length rest)) zeros first-three).0
 
-  sizes-hold : are_sizes s.t ≡ true
-  sizes-hold = (and_parts (are_sizes s.t) (nat_le n (length rest)) first-two).0
+  sizes-hold : are_sizes t ≡ true
+  sizes-hold = (and_parts (are_sizes t) (nat_le n (length rest)) first-two).0
 
-  fits : n ≤ length rest
-  fits = leb-true n (length rest) (and_parts (are_sizes s.t) (nat_le n (length rest)) first-two).1
+  pub fits : n ≤ length rest
+  fits = leb-true n (length rest) (and_parts (are_sizes t) (nat_le n (length rest)) first-two).1
 
-  counted : units_for (length (text_bytes r.texts)) ≡ n
-  counted = ap (λ (q : Record). units_for (length (text_bytes q.texts))) (sym s.same)
-      ∙ text-count s.t units wide fits
-
-  abbrev end : ℕ
-  end = 10 + units_for (length (text_bytes r.texts))
-
-  behind : drop end units ≡ drop n rest
-  behind = ap (λ k. drop (10 + k) units) counted ∙ sym (drop-drop n 10 units)
-
-  pub drawn-there : is_drawn r.head.kind (drop end units) ≡ true
-  drawn-there = ap (is_drawn r.head.kind) behind
-      ∙ ap (λ (q : Record). is_drawn q.head.kind (drop n rest)) (sym s.same) ∙ drawn-holds
-
-  pub same-there : redrawn r (drop end units) ≡ r
-  same-there = ap (redrawn r) behind ∙ ap (λ (q : Record). redrawn q (drop n rest)) (sym s.same) ∙ s.same
-
-  -- other units in their place
-  module _ (others : List Unit16) (drawn : is_drawn r.head.kind others ≡ true) where
+  -- other units in the place of those that it is drawn from
+  module _ (others : List Unit16) (drawn : is_drawn t.head.kind others ≡ true) where
     abbrev front : List Unit16
     front = take (10 + n) units
 
     abbrev later : List Unit16
     later = take n rest ++ others
 
-    front-long : length front ≡ 10 + n
-    front-long = omega (arith, fits, s.ten, length-take (10 + n) units, length-drop 10 units)
+    pub front-long : length front ≡ 10 + n
+    front-long = omega (arith, fits, ten, length-take (10 + n) units, length-drop 10 units)
 
-    same-head : take 10 (front ++ others) ≡ take 10 units
+    pub same-head : take 10 (front ++ others) ≡ take 10 units
     same-head = take-append-le 10 front others (omega (arith, front-long)) ∙ front-of 10 0 (10 + n) units (omega arith)
 
-    same-rest : drop 10 (front ++ others) ≡ later
+    pub same-rest : drop 10 (front ++ others) ≡ later
     same-rest = drop-append-le 10 front others (omega (arith, front-long))
         ∙ ap (λ us. us ++ others) (drop-take 10 n units)
 
@@ -128,49 +110,77 @@ module _ (units : List Unit16) (r : Record) (wide : AreWide units) (is : record_
     same-texts : take n later ≡ take n rest
     same-texts = take_at (take n rest) others n texts-long
 
-    new-drawn : drop n later ≡ others
+    pub new-drawn : drop n later ≡ others
     new-drawn = drop_at (take n rest) others n texts-long
 
     later-long : n ≤ length later
     later-long = omega (arith, texts-long, length-append (take n rest) others)
 
-    still : is_behind s.t later ≡ true
+    pub still : is_behind t later ≡ true
     still =
         let room : nat_le n (length later) ≡ true = le-leb n (length later) later-long in
-        let none : are_zeros (drop (sizes_total (slot_sizes s.t)) (bytes_in (take n later))) ≡ true =
-        ap (λ us. are_zeros (drop (sizes_total (slot_sizes s.t)) (bytes_in us))) same-texts ∙ zeros-hold in
-        let here : is_drawn s.t.head.kind (drop n later) ≡ true =
-        ap (is_drawn s.t.head.kind) new-drawn ∙ ap (λ (q : Record). is_drawn q.head.kind others) s.same ∙ drawn in
+        let none : are_zeros (drop (sizes_total (slot_sizes t)) (bytes_in (take n later))) ≡ true =
+        ap (λ us. are_zeros (drop (sizes_total (slot_sizes t)) (bytes_in us))) same-texts ∙ zeros-hold in
+        let here : is_drawn t.head.kind (drop n later) ≡ true = ap (is_drawn t.head.kind) new-drawn ∙ drawn in
         and_from _ _ (and_from _ _ (and_from _ _ sizes-hold room) none) here
 
-    made : Record → Record
-    made q = redrawn q others
-
-    new-record : record_of s.t n later ≡ redrawn r others
+    pub new-record : record_of t n later ≡ redrawn (record_of t n rest) others
     new-record =
         ap (λ us. record {
-          head = s.t.head;
-          texts = texts_told (bytes_in us) (spans_from 0 (slot_sizes s.t));
-          spot = spot_in s.t.head.kind (drop n later);
-          parts = unwrap_or (drawn_parts s.t.head.kind (drop n later)) [];
+          head = t.head;
+          texts = texts_told (bytes_in us) (spans_from 0 (slot_sizes t));
+          spot = spot_in t.head.kind (drop n later);
+          parts = unwrap_or (drawn_parts t.head.kind (drop n later)) [];
         }) same-texts
         ∙ ap (λ us. record {
-          head = s.t.head;
-          texts = texts_told (bytes_in (take n rest)) (spans_from 0 (slot_sizes s.t));
-          spot = spot_in s.t.head.kind us;
-          parts = unwrap_or (drawn_parts s.t.head.kind us) [];
+          head = t.head;
+          texts = texts_told (bytes_in (take n rest)) (spans_from 0 (slot_sizes t));
+          spot = spot_in t.head.kind us;
+          parts = unwrap_or (drawn_parts t.head.kind us) [];
         }) new-drawn
-        ∙ ap (λ (q : Record). redrawn q others) s.same
 
-    read-again : record_in (front ++ others) ≡ Some (redrawn r others)
+    pub new-head : head_in (take 10 (front ++ others)) ≡ Some t
+    new-head = ap head_in same-head ∙ head
+
+    pub new-long : 10 ≤ length (front ++ others)
+    new-long = omega (arith, front-long, length-append front others)
+
+    pub read-again : record_in (front ++ others) ≡ Some (redrawn (record_of t n rest) others)
     unfolding record_in
     read-again =
-        let long : nat_le 10 (length (front ++ others)) ≡ true =
-        le-leb 10 (length (front ++ others)) (omega (arith, front-long, length-append front others)) in
         ap (λ b.
-        if b then record_behind (drop 10 (front ++ others)) (head_in (take 10 (front ++ others))) else None) long
-        ∙ ap (record_behind (drop 10 (front ++ others))) (ap head_in same-head ∙ s.head)
-        ∙ ap (λ us. record_behind us (Some s.t)) same-rest ∙ (rw still refl) ∙ ap Some new-record
+        if b then record_behind (drop 10 (front ++ others)) (head_in (take 10 (front ++ others))) else None)
+        (le-leb 10 (length (front ++ others)) new-long)
+        ∙ ap (record_behind (drop 10 (front ++ others))) new-head
+        ∙ ap (λ us. record_behind us (Some t)) same-rest ∙ (rw still refl) ∙ ap Some new-record
 
-    pub redrawn-is : record_in (take end units ++ others) ≡ Some (redrawn r others)
-    redrawn-is = ap (λ k. record_in (take (10 + k) units ++ others)) counted ∙ read-again
+module _ (units : List Unit16) (r : Record) (wide : AreWide units) (is : record_in units ≡ Some r) where
+  abbrev s : IsSpelled units r
+  s = spelled units r is
+
+  abbrev own : List Unit16
+  own = drop (count_of s.t) (drop 10 units)
+
+  counted : units_for (length (text_bytes r.texts)) ≡ count_of s.t
+  counted = ap (λ (q : Record). units_for (length (text_bytes q.texts))) (sym s.same)
+      ∙ text-count s.t units wide (fits units s.t s.ten s.head s.holds)
+
+  abbrev end : ℕ
+  end = 10 + units_for (length (text_bytes r.texts))
+
+  behind : drop end units ≡ own
+  behind = ap (λ k. drop (10 + k) units) counted ∙ sym (drop-drop (count_of s.t) 10 units)
+
+  pub drawn-there : is_drawn r.head.kind (drop end units) ≡ true
+  drawn-there = ap (is_drawn r.head.kind) behind ∙ ap (λ (q : Record). is_drawn q.head.kind own) (sym s.same)
+      ∙ drawn-holds units s.t s.ten s.head s.holds
+
+  pub same-there : redrawn r (drop end units) ≡ r
+  same-there = ap (redrawn r) behind ∙ ap (λ (q : Record). redrawn q own) (sym s.same) ∙ s.same
+
+  pub redrawn-is : (others : List Unit16) → is_drawn r.head.kind others ≡ true
+      → record_in (take end units ++ others) ≡ Some (redrawn r others)
+  redrawn-is others drawn = ap (λ k. record_in (take (10 + k) units ++ others)) counted
+      ∙ read-again units s.t s.ten s.head s.holds others
+      (ap (λ (q : Record). is_drawn q.head.kind others) s.same ∙ drawn)
+      ∙ ap (λ (q : Record). Some (redrawn q others)) s.same

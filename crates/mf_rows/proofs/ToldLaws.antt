@@ -2,7 +2,8 @@
 use Rattle.std.proofs.Common.{◌≡◌, ◌⊎◌, inl, inr, ℕ, zero, suc, ◌+◌, ◌*◌, ◌/◌, ◌^◌, ◌≤◌, ◌<◌, true, false}
 use Rattle.std.proofs.Common.{List, [], ◌∷◌, length, drop}
 use Rattle.std.proofs.Common.{take, Option, Some, None, refl, sym, ap, ◌∙◌, arith, subst}
-use Rattle.std.specs.Prelude.{is_some, IsSome, IfSome, nat_eq, nat_le}
+use Rattle.std.specs.Prelude.{is_some, IsSome, IfSome, nat_eq, nat_le, Bool}
+use Rattle.std.specs.Bool.{then_some}
 use Rattle.std.specs.List.{AllByRecursion}
 use Rattle.std.proofs.lemmas.Bool.{cases_Bool, and_parts, leb-true, le-leb, lt-leb, eqb-true}
 use Rattle.std.proofs.lemmas.List.{drop_all, length-drop, length-take, length-append, length-map}
@@ -17,8 +18,8 @@ use Rattle.mf_rows.specs.Records.{LiesIn, texts_told, spot_in, drawn_parts}
 use Rattle.mf_rows.specs.RecordUnits.{slot_sizes, sizes_total, spans_from, units_for, bytes_in, are_sizes, are_zeros}
 use Rattle.mf_rows.specs.RecordUnits.{is_line, is_drawn, is_behind, record_behind, record_in}
 use Rattle.mf_rows.specs.RecordUnits.{AreWide}
-use Rattle.mf_rows.specs.RecordUnits.{text_bytes, spot_count, parts_count, record_of}
-use Rattle.mf_rows.specs.Told.{IsTold}
+use Rattle.mf_rows.specs.RecordUnits.{text_bytes, spot_count, parts_count, last_place, record_of}
+use Rattle.mf_rows.specs.Told.{IsTold, head_told}
 use Rattle.mf_rows.specs.declared.head.TextSlot.{TextSlot}
 use Rattle.mf_rows.specs.declared.told.Told.{Told}
 use Rattle.feature_model.specs.Points.{Part}
@@ -42,16 +43,33 @@ spans-lie bound at (s ∷ sizes) within =
     by_size all (inl e) same more = rw e same
     by_size all (inr e) same more = rw e (omega (arith, all), more)
 
-line-some : (units : List Unit16) → length units < 2 ^ 63 → is_line units ≡ true → IsSome (parts_in units)
-line-some [] few is = ap is_some parts_in-none
-line-some (first ∷ points) few is =
+pub line-parts : (first : Unit16) (points : List Unit16) → length points < 2 ^ 63 → is_line (first ∷ points) ≡ true
+    → parts_in (first ∷ points) ≡ Some (with_part Role.Outer (take (length points) points) [])
+line-parts first points few is =
     let n : ℕ = length points in
     let unit : first ≡ part_unit Role.Outer n = (bytes_eq-Decides first (part_unit Role.Outer n)).0 is in
     let told : part_in first ≡ Some (Role.Outer, n) =
     ap part_in unit ∙ part_told Role.Outer n (omega (arith, few)) in
     let none : drop n points ≡ [] = drop_all n points (omega arith) in
-    part-behind first points Role.Outer n told (omega arith) ∙ ap (λ us. is_some (parts_in us)) none
-    ∙ ap is_some parts_in-none
+    part-behind first points Role.Outer n told (omega arith)
+    ∙ ap (λ us. option_map (with_part Role.Outer (take n points)) (parts_in us)) none
+    ∙ ap (option_map (with_part Role.Outer (take n points))) parts_in-none
+
+line-some : (units : List Unit16) → length units < 2 ^ 63 → is_line units ≡ true → IsSome (parts_in units)
+line-some [] few is = ap is_some parts_in-none
+line-some (first ∷ points) few is = ap is_some (line-parts first points (omega (arith, few)) is)
+
+-- the part of a way stands first
+line-last : (units : List Unit16) → length units < 2 ^ 63 → is_line units ≡ true
+    → 0 ≡ last_place (unwrap_or (parts_in units) [])
+line-last [] few is = sym (ap (λ o. last_place (unwrap_or o [])) parts_in-none)
+line-last (first ∷ points) few is =
+    sym (ap (λ o. last_place (unwrap_or o [])) (line-parts first points (omega (arith, few)) is))
+
+pub line-place : (b : Bool) (units : List Unit16) (o : Option ℕ) → b ≡ is_line units → length units < 2 ^ 63
+    → o ≡ then_some b 0 → IfSome o (λ n. n ≡ last_place (unwrap_or (parts_in units) []))
+line-place true units o line few is = rw is (line-last units few (sym line))
+line-place false units o line few is = rw is tt
 
 drawn-some : (kind : EntityKind) (units : List Unit16) → length units < 2 ^ 63 → is_drawn kind units ≡ true
     → IsSome (drawn_parts kind units)
@@ -108,7 +126,7 @@ mapped-long role points (Some parts) n is many =
     let long : length (map point_in points) ≡ length points = length-map points point_in in
     omega (arith, long, many)
 
-parts-long : (most : ℕ) (units : List Unit16) → length units ≤ most → IsSome (parts_within most units)
+pub parts-long : (most : ℕ) (units : List Unit16) → length units ≤ most → IsSome (parts_within most units)
     → parts_count (unwrap_or (parts_within most units) []) ≡ length units
 unfolding parts_within
 parts-long zero [] few is = refl
@@ -164,7 +182,7 @@ drawn-long EntityKind.Relation units is some =
 drop-few : (n : ℕ) (units : List Unit16) → length units < 2 ^ 63 → length (drop n units) < 2 ^ 63
 drop-few n units few = omega (arith, few, length-drop n units)
 
-wide-drop : (k : ℕ) (units : List Unit16) → AreWide units → AreWide (drop k units)
+pub wide-drop : (k : ℕ) (units : List Unit16) → AreWide units → AreWide (drop k units)
 wide-drop zero units wide = wide
 wide-drop (suc k) [] wide = wide
 wide-drop (suc k) (u ∷ units) wide = wide-drop k units (later-wide u units wide)
@@ -188,9 +206,10 @@ module _ (t : HeadTold) (units : List Unit16) where
   texts_units = units_for (sizes_total (slot_sizes t))
 
   pub told-is : (told : Told) → AreWide units → length units < 2 ^ 63 → told.head ≡ t.head
-      → told.lengths ≡ t.texts → told.texts ≡ texts_units → is_behind t units ≡ true
-      → IsTold told units (record_behind units (Some t))
-  told-is told wide few head-is lengths-are texts-are holds =
+      → told.lengths ≡ t.texts → told.texts ≡ texts_units
+      → told.part ≡ last_place (unwrap_or (drawn_parts t.head.kind (drop texts_units units)) [])
+      → is_behind t units ≡ true → IsTold told units (record_behind units (Some t))
+  told-is told wide few head-is lengths-are texts-are part-is holds =
       let n : ℕ = texts_units in
       let third = and_parts _ (is_drawn t.head.kind (drop n units)) holds in
       let second = and_parts _ (are_zeros (drop (sizes_total (slot_sizes t)) (bytes_in (take n units)))) third.0 in
@@ -207,12 +226,14 @@ module _ (t : HeadTold) (units : List Unit16) where
       ≡ length (drop n units) = drawn-long t.head.kind (drop n units) third.1 drawn in
       record {
         room = rw texts-are (leb-true n (length units) first.1);
+        texts = rw (head-is, lengths-are) texts-are;
         same = rw (holds, head-is, lengths-are, texts-are) refl;
         lies = rw (head-is, lengths-are, texts-are)
             (spans-lie (length (bytes_in (take n units))) 0 (slot_sizes t) all);
         drawn = rw (head-is, texts-are) drawn;
         counted = rw (head-is, lengths-are, texts-are)
             (omega (arith, texts_count, drawn_count, within, length-drop n units));
+        last = rw (head-is, texts-are) part-is;
       }
 
 -- units of a record
@@ -239,3 +260,10 @@ module _ (units : List Unit16) where
     kept-told t is found all =
         subst (λ spelled. IfSome found (λ told. IsTold told (drop 10 units) spelled)) (behind-head t is)
         (subst (λ us. IfSome found (λ told. IsTold told us (record_behind rest (Some t)))) rest-is all)
+
+-- the head that is kept is the one that is read
+pub head-kept : (units front : List Unit16) → front ≡ take 10 units → (t : HeadTold) → head_in front ≡ Some t
+    → (found : Option Told) → IfSome found (λ told. head_told told ≡ t)
+    → IfSome found (λ told. head_in (take 10 units) ≡ Some (head_told told))
+head-kept units front front-is t is None all = tt
+head-kept units front front-is t is (Some told) all = sym (ap head_in front-is) ∙ is ∙ ap Some (sym all)

@@ -12,4 +12,5 @@ pub mod Heads
 pub mod RecordUnits
 pub mod Told
 pub mod Desks
+pub mod Changes
 pub mod FirstUnits

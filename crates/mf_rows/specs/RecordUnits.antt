@@ -78,6 +78,12 @@ abbrev pub parts_count : List Part → ℕ
 parts_count [] = 0
 parts_count (p ∷ parts) = 1 + length p.points + parts_count parts
 
+-- where the unit of the last part stands among the units of parts
+abbrev pub last_place : List Part → ℕ
+last_place [] = 0
+last_place (p ∷ []) = 0
+last_place (p ∷ q ∷ parts) = 1 + length p.points + last_place (q ∷ parts)
+
 -- The units of a record before those that it is drawn from: ten for its head, and one for each begun 16 bytes of texts.
 abbrev pub front_count : Record → ℕ
 front_count r = 10 + units_for (length (text_bytes r.texts))

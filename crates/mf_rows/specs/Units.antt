@@ -1,6 +1,6 @@
 -- The units of 16 bytes that spell the parts and points of a record: this project's profile, on row kinds. What the
 -- bytes of a part's unit are is this project's own.
-use Rattle.std.specs.Prelude.{ℕ, zero, suc, ◌^◌, ◌<◌, nat_le, if◌then◌else◌, List, [], ◌∷◌, map, flat_map, length, take}
+use Rattle.std.specs.Prelude.{◌≡◌, ℕ, zero, suc, ◌+◌, ◌^◌, ◌<◌, nat_le, if◌then◌else◌, List, [], ◌∷◌, map, flat_map, length, take}
 use Rattle.std.specs.Prelude.{drop, bytes_eq, Option, Some, None, option_map}
 use Rattle.std.specs.List.{AllByRecursion}
 use Rattle.mf_base.specs.declared.kind.Role.{Role}
@@ -86,6 +86,13 @@ parts_within (suc most) (first ∷ units) = next_parts (part_in first) units (pa
 -- the parts that units spell, where they spell some
 abbrev pub parts_in : List Unit16 → Option (List Part)
 parts_in units = parts_within (length units) units
+
+-- Units follow a part: behind its unit stand its points, and then these.
+pub record FollowsPart (first : Unit16) (rest more : List Unit16) : Type 0 where
+  pub role : Role
+  pub points : List Unit16
+  pub all : parts_in (first ∷ rest) ≡ option_map (with_part role points) (parts_in more)
+  pub counted : length rest ≡ length points + length more
 
 -- a part of these points
 abbrev pub shown_part : Role → List Point → Part

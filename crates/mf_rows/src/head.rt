@@ -1,5 +1,11 @@
 //! What is known of a record before its parts.
 
+ghost use Rattle.std.specs.Prelude.{◌^◌, ◌<◌, FitsSigned};
+ghost use Rattle.std.specs.Int.{w8, w32};
+ghost use Rattle.std.specs.List.{AllByRecursion};
+ghost use Rattle.mf_rows.specs.Heads.{height_number};
+ghost use Rattle.mf_rows.specs.FirstUnits.{IsHead, IsKeptTag};
+
 use arrayvec::ArrayVec;
 use mf_base::kept::Kept;
 use mf_base::kind::EntityKind;
@@ -20,6 +26,46 @@ pub struct Head {
     pub height: Option<i32>,
     pub tags: ArrayVec<Kept, 15>,
 }
+
+impl Head {
+    /// A value of the type is a head.
+    pub fn known(&self)
+        ensures { IsHead self.now }
+    {
+        numbers_known(self.id, self.number, self.weight);
+        smaller_known(self.zoom, self.layer, self.height);
+        tags_known(&self.tags);
+    }
+}
+
+// Numbers of eight bytes.
+fn numbers_known(id: u64, number: u64, weight: u64)
+    ensures id { id < 2 ^ 64 }
+    ensures number { number < 2 ^ 64 }
+    ensures weight { weight < 2 ^ 64 }
+{}
+
+// Zoom, layer and height.
+fn smaller_known(zoom: u8, layer: i8, height: Option<i32>)
+    ensures zoom { zoom < 2 ^ 8 }
+    ensures layer { FitsSigned w8 layer }
+    ensures height { FitsSigned w32 (height_number height) }
+{}
+
+// Kept tags are such.
+fn tags_known(tags: &[Kept])
+    ensures { AllByRecursion IsKeptTag tags.now }
+{
+    if let Some((first, rest)) = tags.split_first() {
+        tag_known(*first);
+        tags_known(rest);
+    }
+}
+
+// A value of the type is a kept tag.
+fn tag_known(kept: Kept)
+    ensures { IsKeptTag kept }
+{}
 
 /// What a text is: a name, a house number, a reference, or the value of the kept tag of this place.
 #[derive(Clone, Copy, Debug, Default, PartialEq, Eq)]

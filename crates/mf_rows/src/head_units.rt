@@ -6,6 +6,7 @@ ghost use Rattle.mf_rows.specs.Heads.{value_kind, value_number, kept_fields, kin
 ghost use Rattle.mf_rows.specs.Heads.{id_unit as unit_of_ids, marks_unit as unit_of_marks};
 ghost use Rattle.mf_rows.specs.Heads.{lengths_unit as unit_of_lengths, kept_unit as unit_of_kept};
 ghost use Rattle.mf_rows.specs.Heads.{head_unit as unit_of_head, bit, height_bit};
+ghost use Rattle.mf_rows.specs.FirstUnits.{AreLengths};
 
 use crate::fields::{put_i32, put_u8, put_u16, put_u32, put_u64};
 use crate::head::Head;
@@ -18,6 +19,13 @@ pub struct TextLengths {
     pub name: u16,
     pub house: u16,
     pub reference: u16,
+}
+
+impl TextLengths {
+    /// A value of the type are lengths of texts.
+    pub fn known(self)
+        ensures { AreLengths self }
+    {}
 }
 
 /// A unit of a head.

@@ -7,6 +7,7 @@
 //! parts are `units` of 16 bytes, and `first_units` has those of its head and texts.
 #![tactic(auto)]
 
+mod changes;
 pub mod cursors;
 pub mod desk;
 mod fields;

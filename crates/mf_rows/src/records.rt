@@ -3,14 +3,19 @@
 ghost use Rattle.std.specs.Prelude.{◌≡◌, ◌+◌, ◌≤◌, ◌<◌, [], ◌∷◌, ◌++◌, length, take, drop, slice_get, slice_set};
 ghost use Rattle.std.specs.Prelude.{Some, IfOk, IsSome, is_some};
 ghost use Rattle.std.specs.List.{AllByRecursion};
-ghost use Rattle.mf_rows.specs.Records.{LiesIn, drawn_parts};
+ghost use Rattle.mf_rows.specs.Records.{Record, LiesIn, drawn_parts};
 ghost use Rattle.mf_rows.specs.RecordUnits.{record_in, bytes_in, spans_from, slot_sizes};
 ghost use Rattle.mf_rows.specs.Told.{units_at, head_told, record_told};
 ghost use Rattle.mf_rows.specs.Desks.{used, IsLoosened, closed as with_record};
+ghost use Rattle.mf_rows.specs.Changes.{LastIs, TakesPart, TakesPoint, with_last, with_new_part, with_new_point};
+ghost use Rattle.mf_rows.specs.Changes.{with_feature};
 
+use crate::changes::{put_feature, put_part, put_point};
 use crate::head::Texts;
 use crate::told::{Kept, Told, laid_texts, read_record};
 use crate::view::View;
+use mf_base::kind::Role;
+use mf_base::place::Place;
 use std::alloc::{AllocError, Global};
 use std::marker::Model;
 
@@ -134,6 +139,43 @@ impl Records {
         if let Some(kept) = self.kept.pop() {
             self.closed = kept.first;
         }
+    }
+
+    /// Puts a part without points to the last record. A way has one part, which is outer.
+    pub fn add_part(&mut self, role: Role)
+        requires none { self.old.loose ≡ [] }
+        requires last { LastIs (λ (r : Record). TakesPart role r.head.kind r.parts) self.old.records }
+        requires spare { used self.old + 1 ≤ self.old.capacity }
+        ensures added { self.new ≡ with_last (with_new_part role) self.old }
+        ensures used { used self.new ≡ used self.old + 1 }
+    {
+        let last = self.kept.len() - 1;
+        put_part(&mut self.kept[last], &mut self.units, role);
+        self.closed += 1;
+    }
+
+    /// Puts a point to the last record: that of a node, or one more of the last part.
+    pub fn add_point(&mut self, node: u64, place: Place)
+        requires none { self.old.loose ≡ [] }
+        requires last { LastIs (λ (r : Record). TakesPoint r.head.kind r.spot r.parts) self.old.records }
+        requires spare { used self.old + 1 ≤ self.old.capacity }
+        ensures added { self.new ≡ with_last (with_new_point (record { node = node; place = place })) self.old }
+        ensures used { used self.new ≡ used self.old + 1 }
+    {
+        let last = self.kept.len() - 1;
+        put_point(&mut self.kept[last], &mut self.units, node, place);
+        self.closed += 1;
+    }
+
+    /// Sets number and weight in the head of the last record.
+    pub fn set_feature(&mut self, number: u64, weight: u64)
+        requires none { self.old.loose ≡ [] }
+        requires some { 0 < length self.old.records }
+        ensures set { self.new ≡ with_last (with_feature number weight) self.old }
+        ensures used { used self.new ≡ used self.old }
+    {
+        let last = self.kept.len() - 1;
+        put_feature(&mut self.kept[last], &mut self.units, number, weight);
     }
 
     /// The loose units.

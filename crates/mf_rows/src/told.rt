@@ -1,16 +1,19 @@
 //! Records, read of their units.
 
 ghost use Rattle.std.specs.Prelude.{◌≡◌, ◌+◌, ◌*◌, ◌≤◌, ◌<◌, ◌∷◌, ◌++◌, ℕ, List, false, length, drop, is_some};
-ghost use Rattle.std.specs.Prelude.{IfSome, IsNone, Some, None};
+ghost use Rattle.std.specs.Prelude.{IfSome, IsNone, Some, None, [], take, unwrap_or};
 ghost use Rattle.std.specs.List.{list_all};
 ghost use Rattle.mf_base.specs.declared.kept.Kept.{Kept as KeptRead};
-ghost use Rattle.mf_rows.specs.Units.{parts_in};
-ghost use Rattle.mf_rows.specs.Told.{IsTold};
+ghost use Rattle.mf_rows.specs.Units.{parts_in, FollowsPart};
+ghost use Rattle.mf_rows.specs.Told.{IsTold, head_told};
 ghost use Rattle.mf_rows.specs.declared.head.TextSlot.{TextSlot as SlotValue};
 ghost use Rattle.arrayvec.specs.ArrayVec.{array_vec_len};
 ghost use Rattle.mf_rows.specs.RecordUnits.{kept_size, slot_sizes, tag_sizes, sizes_total, spans_from};
 ghost use Rattle.mf_rows.specs.RecordUnits.{is_size, are_sizes as fit_sizes};
-ghost use Rattle.mf_rows.specs.RecordUnits.{are_zeros as only_zeros, is_line as spells_line, is_drawn as is_drawing};
+ghost use Rattle.mf_rows.specs.RecordUnits.{are_zeros as only_zeros, is_line as spells_line, is_drawn, last_place};
+ghost use Rattle.mf_rows.specs.RecordUnits.{units_for};
+ghost use Rattle.mf_rows.specs.Records.{drawn_parts};
+ghost use Rattle.mf_rows.specs.Heads.{head_in};
 ghost use Rattle.mf_rows.specs.RecordUnits.{is_behind as stands_behind, record_behind, record_in, bytes_in};
 
 use crate::head::{Head, TextSlot, TextSpan};
@@ -21,12 +24,14 @@ use arrayvec::ArrayVec;
 use mf_base::kept::{Kept as KeptTag, KeptValue};
 use mf_base::kind::{EntityKind, Role};
 
-/// What a desk keeps of a record: its head, the lengths of its texts, and how many units these take.
+/// What a desk keeps of a record: its head, the lengths of its texts, and how many units these take. Of the units that it
+/// is drawn from, the one of the last part stands at `part`.
 #[derive(Drop)]
 pub struct Told {
     pub head: Head,
     pub lengths: TextLengths,
     pub texts: usize,
+    pub part: usize,
 }
 
 /// The same, with the place of its first unit, and how many units it has.
@@ -41,7 +46,8 @@ pub struct Kept {
 pub fn read_record(units: &[[u8; 16]]) -> Option<Told>
     ensures none { IsNone result → record_in units.now ≡ None }
     ensures some { IfSome result (λ t. IsTold t (drop 10 units.now) (record_in units.now)) }
-    ensures head { IfSome result (λ _. 10 ≤ length units.now) }
+    ensures front { IfSome result (λ _. 10 ≤ length units.now) }
+    ensures head { IfSome result (λ t. head_in (take 10 units.now) ≡ Some (head_told t)) }
 {
     if units.len() < 10 {
         return None;
@@ -57,30 +63,35 @@ fn told_of(head: Head, texts: TextLengths, units: &[[u8; 16]]) -> Option<Told>
         → record_behind units.now (Some (record { head = head; texts = texts })) ≡ None }
     ensures some { IfSome result
         (λ t. IsTold t units.now (record_behind units.now (Some (record { head = head; texts = texts })))) }
+    ensures same { IfSome result (λ t. head_told t ≡ record { head = head; texts = texts }) }
 {
     let size = laid_texts(&head, texts).size as usize;
-    if is_behind(&head, texts, size, units) {
-        Some(Told {
+    match last_behind(&head, texts, size, units) {
+        Some(part) => Some(Told {
             head,
             lengths: texts,
             texts: (size + 15) / 16,
-        })
-    } else {
-        None
+            part,
+        }),
+        None => None,
     }
 }
 
-// Whether units are those behind a head whose texts have so many bytes.
-fn is_behind(head: &Head, texts: TextLengths, size: usize, units: &[[u8; 16]]) -> bool
+// Where the unit of the last part stands behind those of texts, where units are those behind a head whose texts have so
+// many bytes.
+fn last_behind(head: &Head, texts: TextLengths, size: usize, units: &[[u8; 16]]) -> Option<usize>
     requires size { size ≡ sizes_total (slot_sizes (record { head = head.now; texts = texts })) }
     requires small { size ≤ 65535 * 18 }
-    ensures { result ≡ stands_behind (record { head = head.now; texts = texts }) units.now }
+    ensures there { is_some result ≡ stands_behind (record { head = head.now; texts = texts }) units.now }
+    ensures place { IfSome result
+        (λ n. n ≡ last_place (unwrap_or (drawn_parts head.now.kind (drop (units_for size) units.now)) [])) }
 {
     let n = (size + 15) / 16;
-    are_sizes(head, texts)
-        && n <= units.len()
-        && are_zeros_from(&units[..n], size)
-        && is_drawn(head.kind, units.split_at(n).1)
+    if are_sizes(head, texts) && n <= units.len() && are_zeros_from(&units[..n], size) {
+        last_drawn(head.kind, units.split_at(n).1)
+    } else {
+        None
+    }
 }
 
 // Whether the bytes of units are zeros, from this one on.
@@ -108,23 +119,28 @@ fn is_line(units: &[[u8; 16]]) -> bool
     }
 }
 
-// Whether units are those of parts.
-fn are_parts(units: &[[u8; 16]]) -> bool
-    ensures { result ≡ is_some (parts_in units.now) }
+// Where the unit of the last part stands, where units are those of parts.
+fn last_of(units: &[[u8; 16]]) -> Option<usize>
+    ensures there { is_some result ≡ is_some (parts_in units.now) }
+    ensures place { IfSome result (λ n. n ≡ last_place (unwrap_or (parts_in units.now) [])) }
 {
     let mut left = units;
+    let mut last = 0;
     while let Some((first, rest)) = left.split_first() {
         match behind(first, rest) {
-            Some(more) => left = more,
-            None => return false,
+            Some(more) => {
+                last = units.len() - left.len();
+                left = more;
+            }
+            None => return None,
         }
     }
-    true
+    Some(last)
 }
 
 // The units behind a part, of its unit and the units behind that.
 fn behind<'a>(first: &[u8; 16], rest: &'a [[u8; 16]]) -> Option<&'a [[u8; 16]]>
-    ensures some { IfSome result (λ r. is_some (parts_in (first.now ∷ rest.now)) ≡ is_some (parts_in r.now)) }
+    ensures some { IfSome result (λ r. FollowsPart first.now rest.now r.now) }
     ensures less { IfSome result (λ r. length r.now ≤ length rest.now) }
     ensures none { IsNone result → is_some (parts_in (first.now ∷ rest.now)) ≡ false }
 {
@@ -135,14 +151,15 @@ fn behind<'a>(first: &[u8; 16], rest: &'a [[u8; 16]]) -> Option<&'a [[u8; 16]]>
     Some(rest.split_at(points as usize).1)
 }
 
-// Whether units tell what an object of this kind is drawn from, or the front of it.
-fn is_drawn(kind: EntityKind, units: &[[u8; 16]]) -> bool
-    ensures { result ≡ is_drawing kind units.now }
+// Where the unit of the last part stands, where units tell what an object of this kind is drawn from, or the front of it.
+fn last_drawn(kind: EntityKind, units: &[[u8; 16]]) -> Option<usize>
+    ensures there { is_some result ≡ is_drawn kind units.now }
+    ensures place { IfSome result (λ n. n ≡ last_place (unwrap_or (drawn_parts kind units.now) [])) }
 {
     match kind {
-        EntityKind::Node => units.len() <= 1,
-        EntityKind::Way => is_line(units),
-        EntityKind::Relation => are_parts(units),
+        EntityKind::Node => (units.len() <= 1).then_some(0),
+        EntityKind::Way => is_line(units).then_some(0),
+        EntityKind::Relation => last_of(units),
     }
 }
 

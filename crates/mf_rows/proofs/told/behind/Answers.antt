@@ -1,7 +1,6 @@
-use Rattle.std.proofs.Common.{rules, ◌≡◌, ◌<◌, ◌≤◌, ◌∙◌, ap, sym, None, Some, length}
-use Rattle.std.specs.Prelude.{is_some}
-use Rattle.mf_rows.specs.Units.{part_in, parts_in}
-use Rattle.mf_rows.proofs.Walked.{part-behind, part-short, no-part-there}
+use Rattle.std.proofs.Common.{rules, ◌≡◌, ◌<◌, ◌≤◌, None, Some, length}
+use Rattle.mf_rows.specs.Units.{part_in}
+use Rattle.mf_rows.proofs.Walked.{follows, part-short, no-part-there}
 use Rattle.mf_rows.proofs.told.behind.Goals as goal
 
 pub returns-in_err-points-clause-none : goal.returns-in_err-points-clause-none
@@ -19,5 +18,5 @@ pub returns-clause-some : goal.returns-clause-some
 returns-clause-some c =
     let is : part_in c.args.first.now ≡ Some (c.in_ok-points.field-0-0, c.in_ok-points.points) = search rules in
     let within : c.in_ok-points.points ≤ length c.args.rest.now = search rules in
-    part-behind c.args.first.now c.args.rest.now c.in_ok-points.field-0-0 c.in_ok-points.points is within
-    ∙ ap (λ units. is_some (parts_in units)) (sym c.split_at.ensures.back)
+    follows c.args.first.now c.args.rest.now c.in_ok-points.field-0-0 c.in_ok-points.points is within
+    c.split_at.result.1.now c.split_at.ensures.back

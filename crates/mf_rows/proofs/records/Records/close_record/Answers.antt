@@ -13,7 +13,7 @@ push_reserved-requires c =
       s.kept.ok.0,
       place-left s.units.items s.kept.items s.closed (vec_capacity s.units) c.args.self.now v.0 v.1 c.self.view_is
           c.in-Some.told c.split_at.result.1.now (c.split_at.ensures.back ∙ ap (drop s.closed) c.deref.ensures.value)
-          c.in-Some.ensures.some c.in-Some.ensures.head fits,
+          c.in-Some.ensures.some c.in-Some.ensures.front c.in-Some.ensures.head fits,
     )
 
 pub invariant_of-self : goal.invariant_of-self
@@ -26,5 +26,5 @@ invariant_of-self c =
     close-kept s.units.items s.kept.items s.closed (vec_capacity s.units) c.args.self.now v.0 v.1 c.self.view_is
     c.in-Some.told c.split_at.result.1.now (c.split_at.ensures.back ∙ ap (drop s.closed) c.deref.ensures.value)
     c.in-Some.ensures.some
-    c.in-Some.ensures.head in
+    c.in-Some.ensures.front c.in-Some.ensures.head in
     (rw (new.items, many) kept, omega (arith, v.1, many), new.capacity ∙ v.2, v.3)
