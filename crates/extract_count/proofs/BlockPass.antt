@@ -1,22 +1,36 @@
 -- A pass over the objects of a block comes to what the block spells, behind the entities before it.
 use Rattle.std.proofs.Common.{◌≡◌, ◌∙◌, ◌∷◌, ◌++◌, ℕ, List, [], Some, None, Result, Ok, Err, refl, sym, ap}
-use Rattle.std.proofs.Common.{append-nil, append_assoc}
+use Rattle.std.proofs.Common.{append-nil, append_assoc, subst}
+use Rattle.std.proofs.lemmas.Option.{none-some, same_Some}
 use Rattle.std.specs.Prelude.{filter_map, option_map}
+use Rattle.mf_base.specs.Steps.{fault_of}
 use Rattle.osm_model.specs.declared.faults.BlockFault.{BlockFault}
+use Rattle.osm_model.specs.declared.faults.BlockFault.TheVariants.{Wire}
+use Rattle.osm_model.specs.declared.faults.MessageFault.{MessageFault}
+use Rattle.osm_model.specs.declared.numbers.TheConstants.{BLOCK_PRIMITIVEGROUP}
+use Rattle.osm_model.specs.declared.tables.TheConstants.{PRIMITIVE_BLOCK}
+use Rattle.osm_model.specs.Wire.{fields}
+use Rattle.osm_model.specs.Tables.{message, bytes_of}
 use Rattle.osm_model.specs.declared.faults.EntityFault.{EntityFault}
 use Rattle.osm_model.specs.declared.faults.InputCode.TheVariants as input_codes
-use Rattle.osm_model.specs.Reading.{Reading, all_read, stops_at, then_reads, with_front}
+use Rattle.osm_model.specs.Reading.{Reading, stops_at, then_reads, with_front}
 use Rattle.osm_model.specs.Frames.{primitive}
-use Rattle.osm_model.specs.Blocks.{PrimitiveBlock, block, block_strings}
+use Rattle.osm_model.specs.Blocks.{BlockHead, PrimitiveBlock, block, block_head, block_strings}
 use Rattle.osm_model.specs.Entities.{Entity}
 use Rattle.osm_model.specs.Objects.{Object, told_entity, block_objects, block_entities}
 use Rattle.osm_model.specs.Input.{content_fault, content_entities, block_fault, entities_in}
-use Rattle.osm_model.specs.Order.{in_order}
-use Rattle.osm_model.proofs.OrderLaws.{in_order-nil, in_order-all}
-use Rattle.osm_model.proofs.BlockLaws.{block-fault}
-use Rattle.extract_count.specs.BlockPass.{AreGiven}
+use Rattle.osm_model.specs.Order.{in_order, IsRising}
+use Rattle.osm_model.proofs.OrderLaws.{in_order-all}
+use Rattle.osm_model.proofs.BlockLaws.{block-fault, head-fault, block-whole}
+use Rattle.osm_model.proofs.RisingLaws.{block-rises}
+use Rattle.osm_entity.specs.InBlock.{texts_at}
 
 -- ---- the objects of a block
+
+-- Behind the entities before a block, of its objects these were given as entities, without a fault, and these are left.
+abbrev pub AreGiven : List Entity → List (Result Object EntityFault) → List Entity → List (Result Object EntityFault)
+    → Type 0
+AreGiven before objects given left = in_order before objects ≡ with_front given (in_order (before ++ given) left)
 
 pub given-first : (before : List Entity) (objects : List (Result Object EntityFault))
     → AreGiven before objects [] objects
@@ -31,25 +45,6 @@ given-next before given e objects left rest so next =
     so ∙ ap (with_front given) next
     ∙ ap (λ es. with_front given (then_reads e (in_order es rest))) (append_assoc before given (e ∷ []))
     ∙ ap (λ items. record { items = items; fault = behind.fault }) (sym (append_assoc given (e ∷ []) behind.items))
-
--- What is known where all objects were given: none had a fault, and they are these entities.
-pub record AllGiven (before : List Entity) (objects : List (Result Object EntityFault)) (given : List Entity)
-    : Type 0 where
-  pub sound : (in_order before objects).fault ≡ None
-  pub told : filter_map told_entity objects ≡ given
-
-pub given-all : (before given : List Entity) (objects left : List (Result Object EntityFault))
-    → AreGiven before objects given left → left ≡ [] → AllGiven before objects given
-given-all before given objects left so end =
-    let whole : in_order before objects ≡ with_front given all_read = so
-    ∙ ap (λ l. with_front given (in_order (before ++ given) l)) end
-    ∙ ap (with_front given) (in_order-nil (before ++ given)) in
-    let sound : (in_order before objects).fault ≡ None = ap (λ (r : Reading Entity EntityFault). r.fault) whole in
-    record {
-      sound = sound;
-      told = in_order-all before objects sound ∙ ap (λ (r : Reading Entity EntityFault). r.items) whole
-          ∙ append-nil given;
-    }
 
 pub given-fault : (before given : List Entity) (objects left : List (Result Object EntityFault)) (fault : EntityFault)
     → AreGiven before objects given left → in_order (before ++ given) left ≡ stops_at fault
@@ -69,29 +64,6 @@ told_in : (raw : List ℕ) (b : PrimitiveBlock) → block raw ≡ Ok b
 unfolding entities_in block_entities
 told_in raw b e = rw (e, entities_in) refl
 
--- What a PrimitiveBlock comes to where all its objects were given.
-pub record ComesTo (before : List Entity) (raw : List ℕ) (given : List Entity) : Type 0 where
-  pub sound : content_fault before (primitive raw) ≡ None
-  pub told : content_entities (primitive raw) ≡ given
-
-pub block-all : (before given : List Entity) (raw : List ℕ) (b : PrimitiveBlock)
-    (left : List (Result Object EntityFault)) → block raw ≡ Ok b → AreGiven before (block_objects b) given left
-    → left ≡ [] → ComesTo before raw given
-block-all before given raw b left is so end =
-    let all = given-all before given (block_objects b) left so end in
-    record {
-      sound = fault_in before raw b is ∙ ap (option_map input_codes.Entity) all.sound;
-      told = told_in raw b is ∙ all.told;
-    }
-
-pub block-stop : (before given : List Entity) (raw : List ℕ) (b : PrimitiveBlock)
-    (left : List (Result Object EntityFault)) (fault : EntityFault) → block raw ≡ Ok b
-    → AreGiven before (block_objects b) given left → in_order (before ++ given) left ≡ stops_at fault
-    → content_fault before (primitive raw) ≡ Some (input_codes.Entity fault)
-block-stop before given raw b left fault is so stop =
-    fault_in before raw b is
-    ∙ ap (option_map input_codes.Entity) (given-fault before given (block_objects b) left fault so stop)
-
 refused_in : (before : List Entity) (raw : List ℕ) (fault : BlockFault) → block raw ≡ Err fault
     → block_fault before raw ≡ Some (input_codes.Block fault)
 unfolding block_fault
@@ -101,3 +73,57 @@ refused_in before raw fault e = rw (e, block_fault) refl
 pub block-refused : (before : List Entity) (raw : List ℕ) (fault : BlockFault) → block_strings raw ≡ Err fault
     → content_fault before (primitive raw) ≡ Some (input_codes.Block fault)
 block-refused before raw fault e = refused_in before raw fault ((block-fault raw fault).1 e)
+
+pub fault-is : (A : Type 0) (r : Result A BlockFault) (fault : BlockFault) → Some fault ≡ fault_of r → r ≡ Err fault
+fault-is A (Ok x) fault e = absurd (none-some fault (sym e))
+fault-is A (Err f) fault e = ap Err (same_Some f fault (sym e))
+
+message_refused : (raw : List ℕ) (told : MessageFault) → message PRIMITIVE_BLOCK raw ≡ Err told
+    → block_strings raw ≡ Err (Wire told)
+unfolding block_strings
+message_refused raw told e = rw (e, block_strings) refl
+
+-- a fault of the head is one of the strings
+pub head-refused : (raw : List ℕ) (fault : BlockFault) → block_head raw ≡ Err fault → block_strings raw ≡ Err fault
+head-refused raw fault e =
+    let h = (head-fault raw fault).0 e in message_refused raw h.0 h.1 ∙ ap Err (sym h.2)
+
+pub primitive-stop : (es : List Entity) (raw : List ℕ) (b : PrimitiveBlock) (fault : EntityFault)
+    → block raw ≡ Ok b → (in_order es (block_objects b)).fault ≡ Some fault
+    → content_fault es (primitive raw) ≡ Some (input_codes.Entity fault)
+primitive-stop es raw b fault is stop = fault_in es raw b is ∙ ap (option_map input_codes.Entity) stop
+
+-- What a PrimitiveBlock without a fault comes to.
+pub record IsSound (es : List Entity) (raw : List ℕ) (b : PrimitiveBlock) : Type 0 where
+  pub sound : content_fault es (primitive raw) ≡ None
+  pub told : content_entities (primitive raw) ≡ (in_order es (block_objects b)).items
+
+pub primitive-sound : (es : List Entity) (raw : List ℕ) (b : PrimitiveBlock) → block raw ≡ Ok b
+    → (in_order es (block_objects b)).fault ≡ None → IsSound es raw b
+primitive-sound es raw b is none = record {
+  sound = fault_in es raw b is ∙ ap (option_map input_codes.Entity) none;
+  told = told_in raw b is ∙ in_order-all es (block_objects b) none;
+}
+
+-- The objects are those of the block that the bytes spell.
+pub record HasObjects (raw : List ℕ) (objects : List (Result Object EntityFault)) : Type 0 where
+  pub in_block : PrimitiveBlock
+  pub is : block raw ≡ Ok in_block
+  pub same : objects ≡ block_objects in_block
+
+pub has-objects : (raw places : List ℕ) (head : BlockHead) (objects : List (Result Object EntityFault))
+    → block_head raw ≡ Ok head → block_strings raw ≡ Ok (texts_at raw places)
+    → ((b : PrimitiveBlock) → block raw ≡ Ok b → objects ≡ block_objects b) → HasObjects raw objects
+has-objects raw places head objects is_head are_strings told =
+    let b : PrimitiveBlock = record {
+      head = head;
+      strings = texts_at raw places;
+      groups = bytes_of BLOCK_PRIMITIVEGROUP (fields raw).items;
+    } in
+    let is = block-whole raw b (record { head = is_head; strings = are_strings; groups = refl }) in
+    record { in_block = b; is = is; same = told b is }
+
+pub objects-rise : (es : List Entity) (raw : List ℕ) (objects : List (Result Object EntityFault))
+    → HasObjects raw objects → IsRising es → IsRising (es ++ (in_order es objects).items)
+objects-rise es raw objects has rising =
+    subst (λ l. IsRising (es ++ (in_order es l).items)) (sym has.same) (block-rises es has.in_block rising)

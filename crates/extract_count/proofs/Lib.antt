@@ -3,3 +3,6 @@ pub mod WholePass
 pub mod BlockPass
 pub mod CountFits
 pub mod CountNext
+pub mod CountAdds
+pub mod BlockCount
+pub mod TallyReads

@@ -5,7 +5,7 @@ use Rattle.std.specs.Option.{option_or}
 use Rattle.std.proofs.lemmas.Option.{none-some, same_Some}
 use Rattle.mf_base.specs.declared.place.Rect.{Rect}
 use Rattle.mf_edge.specs.Device.{Takes, HasNone}
-use Rattle.mf_edge.specs.Stream.{StreamState}
+use Rattle.mf_edge.specs.Stream.{StreamState, IsWalk}
 use Rattle.osm_model.specs.declared.faults.InputCode.{InputCode}
 use Rattle.osm_model.specs.Frames.{LeadsTo, PassesOver}
 use Rattle.osm_model.specs.Entities.{Entity}
@@ -33,6 +33,15 @@ pass-first Stands old stands = record {
   taken = takes-none old.source.left;
   counted = omega arith;
   holds = ([], None, stands, read-none);
+}
+
+pub walk-none : (old : StreamState) → IsWalk 0 old old
+walk-none old = record {
+  same_reference = refl;
+  rises = omega arith;
+  far = omega arith;
+  reads = omega arith;
+  counts = omega arith;
 }
 
 -- bytes that were taken, and then others

@@ -1,3 +1,4 @@
 pub mod ExtractReading
-pub mod BlockPass
+pub mod BlockCount
 pub mod Counting
+pub mod Tallying

@@ -1,8 +1,8 @@
 //! A pass over the blobs of a whole extract, from any source, also from one that does not tell its bytes.
 
 ghost use Rattle.std.specs.Prelude.{◌≡◌, ◌≤◌, ℕ, List, [], Some, None, Err};
-ghost use Rattle.mf_edge.specs.Stream.{FailsWhere, at};
-ghost use Rattle.osm_model.specs.declared.limits.TheConstants.{BLOB_LIMIT};
+ghost use Rattle.mf_edge.specs.Stream.{FailsWhere, IsWalk, at};
+ghost use Rattle.osm_model.specs.declared.limits.TheConstants.{BLOB_LIMIT, FRAME_LIMIT};
 ghost use Rattle.extract_count.specs.ExtractReading.{TellsExtract, TellsBytes, told_fault};
 
 use mf_edge::{Block, Source, Stream};
@@ -50,6 +50,10 @@ pub fn read_extract<S: Source, R: ExtractReader>(
     ensures exact { (all : List ℕ) → (at S.state src.old).source.left ≡ Some all
         → TellsBytes (R.stands reader.new) all result }
     ensures faults { FailsWhere (result ≡ Err PassFault.Read) (at S.state src.old) (at S.state src.new) }
+
+    // At most as many reads as bytes were taken and one blob more has.
+    ensures walk { IsWalk FRAME_LIMIT (at S.state src.old) (at S.state src.new) }
+    ensures capacity { block.new.capacity ≡ block.old.capacity }
 {
     let mut frames = Frames::new();
     loop {

@@ -2,17 +2,20 @@ use Rattle.std.proofs.Common.{◌≡◌, ◌∙◌, refl, sym, ap, subst, arith,
 use Rattle.std.specs.Prelude.{slice_range}
 use Rattle.mf_base.proofs.StepLaws.{err_is_no_ok}
 use Rattle.mf_edge.specs.Stream.{at}
+use Rattle.mf_edge.proofs.Walking.{walk-then}
+use Rattle.osm_model.specs.declared.limits.TheConstants.{FRAME_LIMIT}
 use Rattle.pbf_frame.specs.declared.blob_pass.PassFault.TheVariants as pass_fault
 use Rattle.pbf_frame.specs.FrameReading.{content_shown}
 use Rattle.extract_count.specs.ExtractReading.{ReadsBlob, TellsExtract}
-use Rattle.extract_count.proofs.WholePass.{pass-first, pass-blob, pass-fault, pass-end, pass-none, told-exact}
+use Rattle.extract_count.proofs.WholePass.{walk-none, pass-first, pass-blob, pass-fault, pass-end, pass-none, told-exact}
 use Rattle.extract_count.proofs.pass.read_extract.Goals as goal
 
 pub loop-frame-init : goal.loop-frame-init
 loop-frame-init g c = (
   pass-first (g.R.ExtractReader.stands c.args.reader.now) (at g.S.Source.state c.args.src.now) c.requires.none,
-  c.requires.room,
   omega (arith, c.requires.start),
+  refl,
+  walk-none (at g.S.Source.state c.args.src.now),
   refl,
 )
 
@@ -45,10 +48,12 @@ loop-frame-preserved g c =
           c.next.result f (Unit {0}) c.read.result _ c.requires.start c.loop-frame.invariant.0 c.next.ensures.takes is
           (λ es box stands. subst (λ b. ReadsBlob Now es box (content_shown f.kind (slice_range b f.start f.end))
           c.read.result) c.bytes.ensures.bytes (c.read.ensures es box stands)) c.in_default.is,
-      omega (arith, c.next.ensures.capacity, c.loop-frame.invariant.1),
       omega (arith, given.below),
       c.next.ensures.faults.same_faults (λ e. absurd (err_is_no_ok _ _ (sym e ∙ c.in-Ok-Some.is)))
-          ∙ c.loop-frame.invariant.3,
+          ∙ c.loop-frame.invariant.2,
+      walk-then 0 (at g.S.Source.state c.args.src.now) (at g.S.Source.state c.loop-frame.src)
+          (at g.S.Source.state c.next.new.src) c.loop-frame.invariant.3 given.walk,
+      c.next.ensures.capacity ∙ c.loop-frame.invariant.4,
     )
 
 pub returns-in-Ok-None-clause-told : goal.returns-in-Ok-None-clause-told
@@ -76,3 +81,18 @@ pub returns-in-Err-clause-exact : goal.returns-in-Err-clause-exact
 returns-in-Err-clause-exact g c all told =
     told-exact (Unit {0}) (g.R.ExtractReader.stands c.loop-frame.reader) (at g.S.Source.state c.args.src.now)
     (at g.S.Source.state c.next.new.src) all (Err c.pass_fault.result) (returns-in-Err-clause-told g c) told
+
+pub returns-in-Err-read-clause-walk : goal.returns-in-Err-read-clause-walk
+returns-in-Err-read-clause-walk g c =
+    walk-then FRAME_LIMIT (at g.S.Source.state c.args.src.now) (at g.S.Source.state c.loop-frame.src)
+    (at g.S.Source.state c.next.new.src) c.loop-frame.invariant.3 c.next.ensures.walk
+
+pub returns-in-Ok-None-clause-walk : goal.returns-in-Ok-None-clause-walk
+returns-in-Ok-None-clause-walk g c =
+    walk-then FRAME_LIMIT (at g.S.Source.state c.args.src.now) (at g.S.Source.state c.loop-frame.src)
+    (at g.S.Source.state c.next.new.src) c.loop-frame.invariant.3 c.next.ensures.walk
+
+pub returns-in-Err-clause-walk : goal.returns-in-Err-clause-walk
+returns-in-Err-clause-walk g c =
+    walk-then FRAME_LIMIT (at g.S.Source.state c.args.src.now) (at g.S.Source.state c.loop-frame.src)
+    (at g.S.Source.state c.next.new.src) c.loop-frame.invariant.3 c.next.ensures.walk

@@ -1,6 +1,5 @@
-use Rattle.std.proofs.Common.{◌≡◌, ◌-◌, ◌<◌, ◌≤◌, ◌^◌}
-use Rattle.mf_edge.specs.Stream.{at}
-use Rattle.osm_model.specs.declared.limits.TheConstants.{BLOB_LIMIT}
+use Rattle.std.proofs.Common.{◌≡◌, ◌-◌, ◌<◌, ◌^◌}
+use Rattle.mf_edge.specs.Stream.{IsWalk, at}
 use Rattle.extract_count.specs.ExtractReading.{HasRead}
 use Rattle.extract_count.proofs.pass.read_extract.Given as goal
 
@@ -10,7 +9,8 @@ invariant-loop-frame g l =
     let old = at g.S.Source.state l.fn.src in
     let new = at g.S.Source.state l.src in
     HasRead (g.R.ExtractReader.stands l.reader) old new
-    × (BLOB_LIMIT ≤ l.block.capacity) × (new.offset < 2 ^ 63 - 1) × (new.source.faults ≡ old.source.faults)
+    × (new.offset < 2 ^ 63 - 1) × (new.source.faults ≡ old.source.faults)
+    × IsWalk 0 old new × (l.block.capacity ≡ l.fn.block.capacity)
 
 abbrev pub decreases-loop-frame : goal.decreases-loop-frame
 decreases-loop-frame g l = 2 ^ 63 - (at g.S.Source.state l.src).offset

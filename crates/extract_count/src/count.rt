@@ -1,0 +1,58 @@
+//! How many entities a whole extract has, from any source, also from one that does not tell its bytes.
+
+ghost use Rattle.std.specs.Prelude.{◌≡◌, ◌≤◌, ℕ, List, Some, Err};
+ghost use Rattle.mf_edge.specs.Stream.{FailsWhere, IsWalk, at};
+ghost use Rattle.osm_model.specs.declared.limits.TheConstants.{BLOB_LIMIT, FRAME_LIMIT};
+ghost use Rattle.extract_count.specs.ExtractReading.{TellsExtract, TellsBytes};
+ghost use Rattle.extract_count.specs.Tallying.{CountedAs};
+
+use crate::counts::Counts;
+use crate::pass::read_extract;
+use crate::tally::Tally;
+use mf_base::place::Rect;
+use mf_edge::{Block, Source, Stream};
+use pbf_block::strings::Strings;
+use pbf_frame::blob_pass::PassFault;
+
+/// How many entities an extract has, and the box that is known of it, in microdegrees.
+#[derive(Clone, Copy, Debug, PartialEq, Eq)]
+pub struct Counted {
+    pub counts: Counts,
+    pub bounds: Option<Rect>,
+}
+
+/// How many nodes, ways and relations an extract has, and the box of the words, or else its own; or its first fault. The
+/// stream is not to be used again after a fault.
+pub fn count_extract<S: Source>(
+    src: &mut Stream<S>,
+    block: &mut Block,
+    strings: Strings,
+    words: Option<Rect>,
+) -> Result<Counted, PassFault>
+    requires room { BLOB_LIMIT ≤ block.old.capacity }
+    requires start { (at S.state src.old).offset ≡ 0 }
+
+    // Over every source, also one that does not tell its bytes.
+    ensures told { TellsExtract (CountedAs words result) (at S.state src.old) result (at S.state src.new) }
+
+    // Over a source that tells its bytes.
+    ensures exact { (all : List ℕ) → (at S.state src.old).source.left ≡ Some all
+        → TellsBytes (CountedAs words result) all result }
+    ensures faults { FailsWhere (result ≡ Err PassFault.Read) (at S.state src.old) (at S.state src.new) }
+
+    // At most as many reads as bytes were taken and one blob more has.
+    ensures walk { IsWalk FRAME_LIMIT (at S.state src.old) (at S.state src.new) }
+    ensures capacity { block.new.capacity ≡ block.old.capacity }
+{
+    let mut tally = Tally::new(strings);
+    match read_extract(src, block, &mut tally) {
+        Ok(()) => Ok(Counted {
+            counts: tally.counts(),
+            bounds: words.or(tally.bounds()),
+        }),
+        Err(fault) => Err(fault),
+    }
+}
+
+#[cfg(test)]
+mod tests;
