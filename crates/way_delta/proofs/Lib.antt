@@ -1,0 +1,4 @@
+pub mod Writing
+pub mod Lists
+pub mod Walked
+pub mod Rings
