@@ -63,7 +63,7 @@ inside-more ring rings p =
     ∙ ap (λ b. is_one_of b (odd (crossed p (flat_map edges rings)))) (sym one)
     ∙ ap (is_one_of (inside (ring ∷ []) p)) (sym (inside-crossed rings p))
 
-inside-none : (p : Place) → inside [] p ≡ false
+pub inside-none : (p : Place) → inside [] p ≡ false
 inside-none p = inside-crossed [] p
 
 -- ---- one ring
