@@ -2,7 +2,8 @@
 //!
 //! `rect` has the rectangle of a feature, `tile_rect` the tiles of a rectangle and those common to two, `bitmap` the
 //! sub-tiles, `zoom` the effective zoom; `interval_words` reads intervals of words, and `laws` has the tiles of a box
-//! and a feature. The definitions are those of `map_model`; `Shapes` says which feature a record is.
+//! and a feature. The definitions are those of `map_model`; `Shapes` of `mf_rows` says which feature a record
+//! is.
 #![tactic(auto)]
 
 pub mod bitmap;
