@@ -15,3 +15,4 @@ pub mod LastPart
 pub mod Changed
 pub mod FeatureSet
 pub mod LastRecord
+pub mod ReadAgain

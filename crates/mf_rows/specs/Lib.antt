@@ -14,3 +14,4 @@ pub mod Told
 pub mod Desks
 pub mod Changes
 pub mod FirstUnits
+pub mod Whole

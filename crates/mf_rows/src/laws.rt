@@ -6,11 +6,14 @@ ghost use Rattle.mf_base.specs.declared.kind.Role.{Role};
 ghost use Rattle.feature_model.specs.Points.{Part};
 ghost use Rattle.std.specs.Prelude.{take, drop, map, [], ◌∷◌, ◌++◌, true};
 ghost use Rattle.mf_rows.specs.Records.{Record};
-ghost use Rattle.mf_rows.specs.RecordUnits.{AreWide, front_count, is_drawn, record_in, redrawn};
+ghost use Rattle.mf_rows.specs.RecordUnits.{AreWide, front_count, is_drawn, record_in, redrawn, units_of};
 ghost use Rattle.mf_rows.specs.declared.head.Head.{Head};
 ghost use Rattle.mf_rows.specs.declared.head_units.TextLengths.{TextLengths};
 ghost use Rattle.mf_rows.specs.Heads.{head_unit, head_in};
-ghost use Rattle.mf_rows.specs.FirstUnits.{IsHead, AreLengths};
+ghost use Rattle.mf_rows.specs.FirstUnits.{IsHead, AreLengths, front_record, front_units};
+ghost use Rattle.mf_rows.specs.Whole.{AreTexts, IsWhole};
+ghost use Rattle.mf_rows.specs.declared.head.TextSlot.{TextSlot};
+ghost use Rattle.mf_base.specs.Texts.{Text};
 ghost use Rattle.mf_rows.specs.Units.{Unit16, part_unit, part_in, parts_units, parts_in, IsPart};
 
 /// The unit of a part tells its role and its number of points, and no other unit tells them.
@@ -42,4 +45,13 @@ pub fn what_a_record_is_drawn_from()
     ensures other { (units others : List Unit16) (r : Record) → AreWide units → record_in units ≡ Some r
         → is_drawn r.head.kind others ≡ true
         → record_in (take (front_count r) units ++ others) ≡ Some (redrawn r others) }
+{}
+
+/// The units of a record are read again as this record: those of its head and texts with any that draw it, and all of
+/// them.
+pub fn a_record_is_read_back()
+    ensures front { (h : Head) (texts : List (TextSlot × Text)) (others : List Unit16) → IsHead h → AreTexts h texts
+        → is_drawn h.kind others ≡ true
+        → record_in (front_units (front_record h texts) ++ others) ≡ Some (redrawn (front_record h texts) others) }
+    ensures whole { (r : Record) → IsWhole r → record_in (units_of r) ≡ Some r }
 {}
