@@ -1,7 +1,7 @@
 -- The last record of a desk, as it is changed in its place.
-use Rattle.std.proofs.Common.{◌≡◌, ℕ, ◌+◌, ◌≤◌, ◌<◌, List, [], ◌∷◌, ◌++◌, length, drop, take, refl, sym, ap, ◌∙◌, arith}
+use Rattle.std.proofs.Common.{◌≡◌, ℕ, ◌+◌, ◌-◌, ◌≤◌, ◌<◌, List, [], ◌∷◌, ◌++◌, length, drop, take, refl, sym, ap, ◌∙◌, arith}
 use Rattle.std.proofs.Common.{subst}
-use Rattle.std.specs.Prelude.{map, slice_index_or, slice_set, suc}
+use Rattle.std.specs.Prelude.{map, slice_get, slice_index_or, slice_set, unwrap_or, zero, suc, Some}
 use Rattle.std.proofs.lemmas.List.{length-map, map-append, take_all, drop_all, take_more, set_split}
 use Rattle.mf_rows.specs.Units.{Unit16}
 use Rattle.mf_rows.specs.Records.{Record}
@@ -31,6 +31,21 @@ is-last P (x ∷ y ∷ front) a is = is-last P (y ∷ front) a is
 pub some-last : {A : Type 0} (P : A → Type 0) (all : List A) → LastIs P all → 0 < length all
 some-last P [] is = absurd is
 some-last P (a ∷ all) is = omega arith
+
+-- the last one, by its place
+last-there : {A : Type 0} (P : A → Type 0) (all : List A) (i : ℕ) (a : A) → i + 1 ≡ length all
+    → Some a ≡ slice_get all i → (LastIs P all → P a) × (P a → LastIs P all)
+last-there P [] i a end is = absurd (omega (arith, end))
+last-there P (x ∷ []) zero a end is =
+    let same : a ≡ x = ap (λ o. unwrap_or o a) is in (λ holds. subst P (sym same) holds, λ holds. subst P same holds)
+last-there P (x ∷ []) (suc i) a end is = absurd (omega (arith, end))
+last-there P (x ∷ y ∷ more) zero a end is = absurd (omega (arith, end))
+last-there P (x ∷ y ∷ more) (suc i) a end is = last-there P (y ∷ more) i a (omega (arith, end)) is
+
+pub last-of : {A : Type 0} (P : A → Type 0) (all : List A) (i : ℕ) (a : A) → i ≡ length all - 1
+    → Some a ≡ slice_get all i → (LastIs P all → P a) × (P a → LastIs P all)
+last-of P [] i a at is = cc
+last-of P (x ∷ all) i a at is = last-there P (x ∷ all) i a (omega (arith, at)) is
 
 split-last : (kept : List Kept) (i : ℕ) (k : Kept) → i + 1 ≡ length kept → k ≡ slice_index_or kept i k
     → kept ≡ take i kept ++ k ∷ []

@@ -1,6 +1,8 @@
 //! The last record of a desk, as it is changed in its place.
 
 ghost use Rattle.std.specs.Prelude.{◌≡◌, ◌+◌, ◌^◌, ◌<◌, ◌≤◌, [], ◌∷◌, ◌++◌, length, vec_len, vec_capacity, IsSome, IfSome};
+ghost use Rattle.std.specs.Prelude.{◌↔◌, IsTrue, nat_lt, false};
+ghost use Rattle.mf_base.specs.declared.kind.Role.{Role};
 ghost use Rattle.mf_rows.specs.Units.{point_in, part_in, part_unit as unit_of_part};
 ghost use Rattle.mf_rows.specs.RecordUnits.{AreWide};
 ghost use Rattle.mf_rows.specs.Changes.{TakesPart, TakesPoint, with_new_part, with_new_point, with_feature};
@@ -11,6 +13,7 @@ use crate::kind::RowKind;
 use crate::kinds::NodeRow;
 use crate::told::Kept;
 use crate::units::{part_unit, point_unit, read_part_unit};
+use crate::view::View;
 use mf_base::kind::{EntityKind, Role};
 use mf_base::place::Place;
 
@@ -120,4 +123,42 @@ pub fn put_feature(kept: &mut Kept, units: &mut Vec<[u8; 16]>, number: u64, weig
     kept.told.head.known();
     kept.told.lengths.known();
     are_wide(units);
+}
+
+/// Whether a record takes a part of this role.
+pub fn part_fits(view: &View, role: Role) -> bool
+    ensures { IsTrue result ↔ TakesPart role view.now.head.kind view.now.parts }
+{
+    match view.head().kind {
+        EntityKind::Node => false,
+        EntityKind::Way => takes_one(role, has_parts(view)),
+        EntityKind::Relation => true,
+    }
+}
+
+// Whether a way takes a part.
+fn takes_one(role: Role, has: bool) -> bool
+    ensures { IsTrue result ↔ ((role ≡ Role.Outer) × (has ≡ false)) }
+{
+    match role {
+        Role::Outer => !has,
+        Role::Inner => false,
+    }
+}
+
+/// Whether a record takes a point.
+pub fn point_fits(view: &View) -> bool
+    ensures { IsTrue result ↔ TakesPoint view.now.head.kind view.now.spot view.now.parts }
+{
+    match view.head().kind {
+        EntityKind::Node => view.point().is_none(),
+        EntityKind::Way | EntityKind::Relation => has_parts(view),
+    }
+}
+
+// Whether a record has parts.
+fn has_parts(view: &View) -> bool
+    ensures { result ≡ nat_lt 0 (length view.now.parts) }
+{
+    view.rings().next().is_some()
 }

@@ -1,7 +1,7 @@
 //! Records in a fixed room.
 
 ghost use Rattle.std.specs.Prelude.{◌≡◌, ◌+◌, ◌≤◌, ◌<◌, [], ◌∷◌, ◌++◌, length, take, drop, slice_get, slice_set};
-ghost use Rattle.std.specs.Prelude.{Some, IfOk, IsSome, is_some};
+ghost use Rattle.std.specs.Prelude.{Some, IfOk, IsSome, is_some, IsTrue, ◌↔◌};
 ghost use Rattle.std.specs.List.{AllByRecursion};
 ghost use Rattle.mf_rows.specs.Records.{Record, LiesIn, drawn_parts};
 ghost use Rattle.mf_rows.specs.RecordUnits.{record_in, bytes_in, spans_from, slot_sizes};
@@ -10,7 +10,7 @@ ghost use Rattle.mf_rows.specs.Desks.{used, IsLoosened, closed as with_record};
 ghost use Rattle.mf_rows.specs.Changes.{LastIs, TakesPart, TakesPoint, with_last, with_new_part, with_new_point};
 ghost use Rattle.mf_rows.specs.Changes.{with_feature};
 
-use crate::changes::{put_feature, put_part, put_point};
+use crate::changes::{part_fits, point_fits, put_feature, put_part, put_point};
 use crate::head::Texts;
 use crate::told::{Kept, Told, laid_texts, read_record};
 use crate::view::View;
@@ -139,6 +139,26 @@ impl Records {
         if let Some(kept) = self.kept.pop() {
             self.closed = kept.first;
         }
+    }
+
+    /// Whether the last record takes a part of this role: a way has one, which is outer, and a relation any number.
+    pub fn takes_part(&self, role: Role) -> bool
+        ensures { IsTrue result ↔ LastIs (λ (r : Record). TakesPart role r.head.kind r.parts) self.now.records }
+    {
+        if self.kept.is_empty() {
+            return false;
+        }
+        part_fits(&self.view(self.len() - 1), role)
+    }
+
+    /// Whether the last record takes a point: a node has one, and a way or a relation has points where it has a part.
+    pub fn takes_point(&self) -> bool
+        ensures { IsTrue result ↔ LastIs (λ (r : Record). TakesPoint r.head.kind r.spot r.parts) self.now.records }
+    {
+        if self.kept.is_empty() {
+            return false;
+        }
+        point_fits(&self.view(self.len() - 1))
     }
 
     /// Puts a part without points to the last record. A way has one part, which is outer.
