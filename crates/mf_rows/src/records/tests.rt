@@ -216,3 +216,98 @@ fn a_record_is_changed(rt: HostRuntime) -> Result<(), Fail> {
     assert_eq!(rt; records.spare(), 20);
     Ok(())
 }
+
+// Begins an outer part, where the last record takes one.
+fn begin_part(records: &mut Records) -> bool {
+    if !records.loose().is_empty() || records.spare() == 0 || !records.takes_part(Role::Outer) {
+        return false;
+    }
+    records.add_part(Role::Outer);
+    true
+}
+
+// Puts a point, where the last record takes one.
+fn grow(records: &mut Records, node: u64, place: Place) -> bool {
+    if !records.loose().is_empty() || records.spare() == 0 || !records.takes_point() {
+        return false;
+    }
+    records.add_point(node, place);
+    true
+}
+
+// Sets number and weight, where there is a record.
+fn number(records: &mut Records, number: u64, weight: u64) -> bool {
+    if !records.loose().is_empty() || records.len() == 0 {
+        return false;
+    }
+    records.set_feature(number, weight);
+    true
+}
+
+// A unit of the first record, where it has so many.
+fn unit_of(records: &Records, i: usize) -> Option<[u8; 16]> {
+    if records.len() == 0 {
+        return None;
+    }
+    match records.units(0).get(i) {
+        Some(unit) => Some(*unit),
+        None => None,
+    }
+}
+
+#[test]
+fn a_way_grows(rt: HostRuntime) -> Result<(), Fail> {
+    let equator = Place { lat: 0, lon: -7 };
+    let mut records = Records::new(rt.alloc(), 32)?;
+    assert!(rt; put_head(&mut records, &head_of(EntityKind::Way, 2), NAMELESS));
+    assert!(rt; records.loose().len() == 10);
+    assert!(rt; records.close_record());
+    assert!(rt; !records.takes_point());
+    assert!(rt; !records.takes_part(Role::Inner));
+    assert!(rt; begin_part(&mut records));
+    assert!(rt; !records.takes_part(Role::Outer));
+    assert!(rt; grow(&mut records, 4, equator));
+    assert!(rt; grow(&mut records, 6, equator));
+    assert!(rt; number(&mut records, 11, 13));
+    assert_eq!(rt; records.spare(), 32 - 13);
+    assert_eq!(rt; parts_of(&records, 0), (1, 4));
+    assert!(rt; records.len() >= 1);
+    assert!(rt; unit_of(&records, 10) == Some(part_unit(Role::Outer, 2)));
+    assert!(rt; unit_of(&records, 12) == Some(point_unit(6, equator)));
+    assert_eq!(rt; records.view(0).head().number, 11);
+    assert_eq!(rt; records.view(0).head().weight, 13);
+    assert!(rt; records.loose().is_empty());
+    records.loosen();
+    assert!(rt; records.close_record());
+    assert!(rt; records.len() >= 1);
+    assert_eq!(rt; records.view(0).head().number, 11);
+    assert!(rt; grow(&mut records, 8, equator));
+    assert_eq!(rt; records.spare(), 32 - 14);
+    Ok(())
+}
+
+#[test]
+fn a_node_and_a_relation_grow(rt: HostRuntime) -> Result<(), Fail> {
+    let corner = Place {
+        lat: i32::MIN,
+        lon: i32::MAX,
+    };
+    let mut records = Records::new(rt.alloc(), 64)?;
+    assert!(rt; !records.takes_point() && !records.takes_part(Role::Outer));
+    assert!(rt; put_relation(&mut records, 3));
+    assert!(rt; grow(&mut records, 77, corner));
+    assert!(rt; records.len() >= 1);
+    assert!(rt; unit_of(&records, 16) == Some(part_unit(Role::Outer, 3)));
+    assert!(rt; unit_of(&records, 19) == Some(point_unit(77, corner)));
+    assert!(rt; begin_part(&mut records));
+    assert_eq!(rt; parts_of(&records, 0), (4, 7));
+    assert!(rt; put_head(&mut records, &head_of(EntityKind::Node, 5), NAMELESS));
+    assert!(rt; records.close_record());
+    assert!(rt; !records.takes_part(Role::Outer));
+    assert!(rt; grow(&mut records, 5, corner));
+    assert!(rt; !records.takes_point());
+    assert!(rt; records.len() >= 2);
+    assert_eq!(rt; records.view(1).point(), Some((5, corner)));
+    assert_eq!(rt; records.spare(), 64 - 21 - 11);
+    Ok(())
+}
