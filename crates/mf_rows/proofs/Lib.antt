@@ -16,3 +16,4 @@ pub mod Changed
 pub mod FeatureSet
 pub mod LastRecord
 pub mod ReadAgain
+pub mod DescriptionAgain

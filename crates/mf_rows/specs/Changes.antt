@@ -66,5 +66,6 @@ with_feature n w r = record r { head = record r.head { number = n; weight = w } 
 
 -- ---- the last record of a desk
 
+-- a desk whose last record is changed
 abbrev pub with_last : (Record → Record) → Desktop → Desktop
 with_last f d = record d { records = change_last f d.records }

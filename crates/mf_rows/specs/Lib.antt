@@ -15,3 +15,4 @@ pub mod Desks
 pub mod Changes
 pub mod FirstUnits
 pub mod Whole
+pub mod Described

@@ -5,13 +5,15 @@ ghost use Rattle.std.specs.List.{AllByRecursion};
 ghost use Rattle.mf_base.specs.declared.kind.Role.{Role};
 ghost use Rattle.feature_model.specs.Points.{Part};
 ghost use Rattle.std.specs.Prelude.{take, drop, map, [], ◌∷◌, ◌++◌, true};
-ghost use Rattle.mf_rows.specs.Records.{Record};
+ghost use Rattle.mf_rows.specs.Records.{Record, description_told};
 ghost use Rattle.mf_rows.specs.RecordUnits.{AreWide, front_count, is_drawn, record_in, redrawn, units_of};
 ghost use Rattle.mf_rows.specs.declared.head.Head.{Head};
 ghost use Rattle.mf_rows.specs.declared.head_units.TextLengths.{TextLengths};
 ghost use Rattle.mf_rows.specs.Heads.{head_unit, head_in};
 ghost use Rattle.mf_rows.specs.FirstUnits.{IsHead, AreLengths, front_record, front_units};
 ghost use Rattle.mf_rows.specs.Whole.{AreTexts, IsWhole};
+ghost use Rattle.mf_rows.specs.Described.{head_of, texts_of, HasShortTexts};
+ghost use Rattle.feature_model.specs.Descriptions.{Description};
 ghost use Rattle.mf_rows.specs.declared.head.TextSlot.{TextSlot};
 ghost use Rattle.mf_base.specs.Texts.{Text};
 ghost use Rattle.mf_rows.specs.Units.{Unit16, part_unit, part_in, parts_units, parts_in, IsPart};
@@ -54,4 +56,10 @@ pub fn a_record_is_read_back()
         → is_drawn h.kind others ≡ true
         → record_in (front_units (front_record h texts) ++ others) ≡ Some (redrawn (front_record h texts) others) }
     ensures whole { (r : Record) → IsWhole r → record_in (units_of r) ≡ Some r }
+{}
+
+/// The head and the texts of a description tell it again, and are those that a record can have.
+pub fn a_description_is_told_back()
+    ensures told { (d : Description) → description_told (head_of d) (texts_of d) ≡ d }
+    ensures texts { (d : Description) → HasShortTexts d → AreTexts (head_of d) (texts_of d) }
 {}
