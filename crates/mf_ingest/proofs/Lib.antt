@@ -1,0 +1,7 @@
+pub mod KeptTexts
+pub mod TextSlots
+pub mod FrontIs
+pub mod Spans
+pub mod TextSizes
+pub mod Whole
+pub mod Describing
