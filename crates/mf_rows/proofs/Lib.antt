@@ -17,3 +17,4 @@ pub mod FeatureSet
 pub mod LastRecord
 pub mod ReadAgain
 pub mod DescriptionAgain
+pub mod TextsAgain

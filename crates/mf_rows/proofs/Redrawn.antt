@@ -80,7 +80,7 @@ module _ (units : List Unit16) (t : HeadTold) (ten : 10 ≤ length units) (head 
   first-two : (are_sizes t && nat_le n (length rest)) ≡ true
   first-two = (and_parts (are_sizes t && nat_le n (length rest)) zeros first-three).0
 
-  sizes-hold : are_sizes t ≡ true
+  pub sizes-hold : are_sizes t ≡ true
   sizes-hold = (and_parts (are_sizes t) (nat_le n (length rest)) first-two).0
 
   pub fits : n ≤ length rest

@@ -77,7 +77,7 @@ drawn-some EntityKind.Node units few is = refl
 drawn-some EntityKind.Way units few is = line-some units few is
 drawn-some EntityKind.Relation units few is = is
 
-enough : (n : ℕ) → 0 + n ≤ 16 * ((n + 15) / 16)
+pub enough : (n : ℕ) → 0 + n ≤ 16 * ((n + 15) / 16)
 enough n = omega arith
 
 -- ---- how many units there are

@@ -50,12 +50,17 @@ pub fn what_a_record_is_drawn_from()
 {}
 
 /// The units of a record are read again as this record: those of its head and texts with any that draw it, and all of
-/// them.
+/// them. What was read of units has the texts of its head, so its first units are read again too.
 pub fn a_record_is_read_back()
     ensures front { (h : Head) (texts : List (TextSlot × Text)) (others : List Unit16) → IsHead h → AreTexts h texts
         → is_drawn h.kind others ≡ true
         → record_in (front_units (front_record h texts) ++ others) ≡ Some (redrawn (front_record h texts) others) }
     ensures whole { (r : Record) → IsWhole r → record_in (units_of r) ≡ Some r }
+    ensures texts { (units : List Unit16) (r : Record) → AreWide units → record_in units ≡ Some r
+        → AreTexts r.head r.texts }
+    ensures again { (units others : List Unit16) (r : Record) → AreWide units → record_in units ≡ Some r
+        → IsHead r.head → is_drawn r.head.kind others ≡ true
+        → record_in (front_units r ++ others) ≡ Some (redrawn r others) }
 {}
 
 /// The head and the texts of a description tell it again, and are those that a record can have.
