@@ -72,3 +72,14 @@ none_left p f xs n e = ap (λ ys. list_any p (map f ys)) (sym (ap (λ k. drop k 
     drop-length : {A : Type 0} (xs : List A) → drop (length xs) xs ≡ []
     drop-length [] = refl
     drop-length (x ∷ xs) = drop-length xs
+
+-- all of those from a place on, where there is one more
+pub all_left : {A : Type 0} (P : A → Type 0) (xs : List A) (i : ℕ) (x : A) → Some x ≡ slice_get xs i → P x
+    → AllByRecursion P (drop (i + 1) xs) → AllByRecursion P (drop i xs)
+all_left P xs i x e here more = subst (AllByRecursion P) (sym (drop-at xs i x e)) (here, more)
+
+pub all_end : {A : Type 0} (P : A → Type 0) (xs : List A) (n : ℕ) → n ≡ length xs → AllByRecursion P (drop n xs)
+all_end P [] zero e = tt
+all_end P [] (suc n) e = tt
+all_end P (x ∷ xs) zero e = absurd (omega (arith, e))
+all_end P (x ∷ xs) (suc n) e = all_end P xs n (omega (arith, e))

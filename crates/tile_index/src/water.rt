@@ -182,3 +182,6 @@ fn lies_within(least: u32, n: u32, greatest: u32) -> bool
 {
     least <= n && n <= greatest
 }
+
+#[cfg(test)]
+mod tests;
