@@ -137,7 +137,8 @@ module _ (units : List Unit16) (k : Kept) (is : IsKept units k.first k) (end : k
     new-told =
         let there : drop (count_of t) behind ≡ others =
         new-drawn own t own-long own-head behind-holds others drawn-now in
-        subst (IsTold told behind) (behind-head after after-long (take 10 after) behind refl (sym after-rest) t after-head)
+        subst (IsTold told behind)
+        (behind-head after after-long (take 10 after) behind refl (sym after-rest) t after-head)
         (told-is t behind told after-wide after-few refl refl texts-are
         (place ∙ ap (λ us. last_place (unwrap_or (drawn_parts t.head.kind us) [])) (sym there))
         (still own t own-long own-head behind-holds others drawn-now))
@@ -294,6 +295,18 @@ last-kept f p (q ∷ []) none = refl
 last-kept f p (q ∷ r ∷ []) none = refl
 last-kept f p (q ∷ r ∷ s ∷ parts) none = ap (λ n. 1 + length q.points + n) (last-kept f p (r ∷ s ∷ parts) none)
 
+-- a way or a relation takes a point where it has a part
+ring-takes : (kind : EntityKind) (spot : Option Point) (parts : List Part)
+    → (kind ≡ EntityKind.Way) ⊎ (kind ≡ EntityKind.Relation) → TakesPoint kind spot parts → 0 < length parts
+ring-takes kind spot parts (inl way) takes = subst (λ k. TakesPoint k spot parts) way takes
+ring-takes kind spot parts (inr relation) takes = subst (λ k. TakesPoint k spot parts) relation takes
+
+ring-parts : (kind : EntityKind) (units : List Unit16) (parts : List Part)
+    → (kind ≡ EntityKind.Way) ⊎ (kind ≡ EntityKind.Relation) → drawn_parts kind units ≡ Some parts
+    → parts_in units ≡ Some parts
+ring-parts kind units parts (inl way) are = ap (λ k. drawn_parts k units) (sym way) ∙ are
+ring-parts kind units parts (inr relation) are = ap (λ k. drawn_parts k units) (sym relation) ∙ are
+
 with-point : (p : Point) (r : Record) (kind : EntityKind) → r.head.kind ≡ kind
     → ◌≡◌ {A = Record} (record {
       head = r.head;
@@ -332,8 +345,16 @@ module _ (units : List Unit16) (k : Kept) (is : IsKept units k.first k) (end : k
   part-place = part-is units k is end
 
   -- the last part
-  module _ (counted : length units < 2 ^ 62) (some : 0 < length r.parts) (are : parts_in there ≡ Some r.parts) where
-    abbrev pub one : IsLast there r.parts
+  module _ (counted : length units < 2 ^ 62)
+      (ring : (k.told.head.kind ≡ EntityKind.Way) ⊎ (k.told.head.kind ≡ EntityKind.Relation))
+      (takes : TakesPoint k.told.head.kind r.spot r.parts) where
+    some : 0 < length r.parts
+    some = ring-takes k.told.head.kind r.spot r.parts ring takes
+
+    are : parts_in there ≡ Some r.parts
+    are = ring-parts k.told.head.kind there r.parts ring (parts-are units k is end)
+
+    pub one : IsLast there r.parts
     one = last-in (length there) there r.parts (omega arith) (omega (arith, counted, long units k is end)) are some
 
     pub at-within : k.first + 10 + k.told.texts + k.told.part < length units
@@ -355,7 +376,8 @@ module _ (units : List Unit16) (k : Kept) (is : IsKept units k.first k) (end : k
         ∙ sym (get_or-drop k.first units (10 + (count_of (head_told k.told) + last_place r.parts)) [])
         ∙ sym (get_or-drop 10 mine (count_of (head_told k.told) + last_place r.parts) [])
         ∙ sym (get_or-drop (count_of (head_told k.told)) (drop 10 mine) (last_place r.parts) []) in
-        ap part_in (get_or_read units (k.first + 10 + k.told.texts + k.told.part) v at-within found [] ∙ same) ∙ one.told
+        ap part_in (get_or_read units (k.first + 10 + k.told.texts + k.told.part) v at-within found [] ∙ same)
+        ∙ one.told
 
   module _ (later : List Unit16) (wide : AreWide later) (few : length later < 2 ^ 62) where
     -- what it is drawn from is this now
@@ -429,9 +451,10 @@ module _ (units : List Unit16) (k : Kept) (is : IsKept units k.first k) (end : k
           push-now draws (part-is units k is end) push-all (with-point p r EntityKind.Node node)
 
     -- the last part has one point more, which is put behind the others
-    module _ (u : Unit16) (counted : length units < 2 ^ 62) (some : 0 < length r.parts)
-        (are : parts_in there ≡ Some r.parts) (v : Unit16) (unit : v ≡ part_unit (one counted some are).role
-        ((one counted some are).n + 1))
+    module _ (u : Unit16) (counted : length units < 2 ^ 62)
+        (ring : (k.told.head.kind ≡ EntityKind.Way) ⊎ (k.told.head.kind ≡ EntityKind.Relation))
+        (takes : TakesPoint k.told.head.kind r.spot r.parts) (v : Unit16)
+        (unit : v ≡ part_unit (one counted ring takes).role ((one counted ring takes).n + 1))
         (put : later ≡ slice_set units (k.first + 10 + k.told.texts + k.told.part) v ++ u ∷ []) where
       abbrev at : ℕ
       at = last_place r.parts
@@ -492,7 +515,8 @@ module _ (units : List Unit16) (k : Kept) (is : IsKept units k.first k) (end : k
             (subst (λ (q : Point). Draws kind now_there None (change_last (with_point q) r.parts)) (sym point) draws))
             place-kept set-all same
 
-        more-there : slice_set there at (part_unit (one counted some are).role ((one counted some are).n + 1)) ++ u ∷ []
+        more-there :
+            slice_set there at (part_unit (one counted ring takes).role ((one counted ring takes).n + 1)) ++ u ∷ []
             ≡ now_there
         more-there = ap (λ w. slice_set there at w ++ u ∷ []) (sym unit)
 
@@ -529,7 +553,7 @@ module _ (units : List Unit16) (k : Kept) (is : IsKept units k.first k) (end : k
             let none : r.spot ≡ None = sym (spot-is units k is end) ∙ ap (λ kind. spot_in kind there) way in
             by_draws EntityKind.Way way
             (subst (λ us. Draws EntityKind.Way us None (change_last (with_point (point_in u)) r.parts)) more-there
-            (way-point there r.parts few-there are (one counted some are) u line))
+            (way-point there r.parts few-there (are counted ring takes) (one counted ring takes) u line))
             (same-so EntityKind.Way way none refl refl)
 
         relation-changed : k.told.head.kind ≡ EntityKind.Relation
@@ -538,22 +562,13 @@ module _ (units : List Unit16) (k : Kept) (is : IsKept units k.first k) (end : k
             let none : r.spot ≡ None = sym (spot-is units k is end) ∙ ap (λ kind. spot_in kind there) relation in
             by_draws EntityKind.Relation relation
             (subst (λ us. Draws EntityKind.Relation us None (change_last (with_point (point_in u)) r.parts)) more-there
-            (relation-point there r.parts few-there are (one counted some are) u))
+            (relation-point there r.parts few-there (are counted ring takes) (one counted ring takes) u))
             (same-so EntityKind.Relation relation none refl refl)
 
-        pub ring-changed : (k.told.head.kind ≡ EntityKind.Way) ⊎ (k.told.head.kind ≡ EntityKind.Relation)
-            → IsChanged units k (with_new_point p r) later (record k { count = k.count + 1 })
-        ring-changed (inl way) = way-changed way
-        ring-changed (inr relation) = relation-changed relation
-
--- a way or a relation takes a point where it has a part
-pub ring-takes : (kind : EntityKind) (spot : Option Point) (parts : List Part)
-    → (kind ≡ EntityKind.Way) ⊎ (kind ≡ EntityKind.Relation) → TakesPoint kind spot parts → 0 < length parts
-ring-takes kind spot parts (inl way) takes = subst (λ k. TakesPoint k spot parts) way takes
-ring-takes kind spot parts (inr relation) takes = subst (λ k. TakesPoint k spot parts) relation takes
-
-pub ring-parts : (kind : EntityKind) (units : List Unit16) (parts : List Part)
-    → (kind ≡ EntityKind.Way) ⊎ (kind ≡ EntityKind.Relation) → drawn_parts kind units ≡ Some parts
-    → parts_in units ≡ Some parts
-ring-parts kind units parts (inl way) are = ap (λ k. drawn_parts k units) (sym way) ∙ are
-ring-parts kind units parts (inr relation) are = ap (λ k. drawn_parts k units) (sym relation) ∙ are
+        pub ring-changed : IsChanged units k (with_new_point p r) later (record k { count = k.count + 1 })
+        ring-changed = by_kind ring
+          where
+            by_kind : (k.told.head.kind ≡ EntityKind.Way) ⊎ (k.told.head.kind ≡ EntityKind.Relation)
+                → IsChanged units k (with_new_point p r) later (record k { count = k.count + 1 })
+            by_kind (inl way) = way-changed way
+            by_kind (inr relation) = relation-changed relation

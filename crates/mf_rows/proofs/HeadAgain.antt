@@ -1,6 +1,6 @@
 -- The units of a head are read again as this head.
-use Rattle.std.proofs.Common.{◌≡◌, ◌⊎◌, inl, inr, ℕ, zero, suc, ◌+◌, ◌^◌, ◌≤◌, ◌<◌, Bool, true, false, List, [], ◌∷◌, ◌++◌}
-use Rattle.std.proofs.Common.{length, take, map, Option, Some, None, refl, sym, ap, ◌∙◌, arith, append_assoc}
+use Rattle.std.proofs.Common.{◌≡◌, ◌⊎◌, inl, inr, ℕ, zero, suc, ◌+◌, ◌^◌, ◌≤◌, ◌<◌, Bool, true, false, List, []}
+use Rattle.std.proofs.Common.{◌∷◌, ◌++◌, length, take, map, Option, Some, None, refl, sym, ap, ◌∙◌, arith, append_assoc}
 use Rattle.std.specs.Prelude.{ℤ, slice_get, bytes_eq, flat_map, if◌then◌else◌, unwrap_or}
 use Rattle.std.specs.List.{AllByRecursion}
 use Rattle.std.specs.Int.{w8, w16, w32, cast_signed, cast_unsigned}
@@ -19,7 +19,8 @@ use Rattle.mf_rows.specs.Spelled.{fields-read_back, number_in, coordinate_in, fi
 use Rattle.mf_rows.specs.Units.{Unit16}
 use Rattle.mf_rows.specs.Heads.{value_kind, value_number, kept_fields, value_told, kept_at, bit, kind_number}
 use Rattle.mf_rows.specs.Heads.{height_bit, height_number, marks, id_unit, marks_unit, lengths_unit, kept_unit}
-use Rattle.mf_rows.specs.Heads.{head_unit, kind_told, has_bit, height_told, all_kept, HeadTold, told_by, are_units, head_in}
+use Rattle.mf_rows.specs.Heads.{head_unit, kind_told, has_bit, height_told, all_kept, HeadTold, told_by, are_units}
+use Rattle.mf_rows.specs.Heads.{head_in}
 use Rattle.mf_rows.specs.FirstUnits.{IsValue, IsKeptTag, IsHead, AreLengths}
 use Rattle.mf_rows.specs.declared.head.Head.{Head}
 use Rattle.mf_rows.specs.declared.head_units.TextLengths.{TextLengths}

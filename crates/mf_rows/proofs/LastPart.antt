@@ -182,7 +182,8 @@ last-in (suc most) (first ∷ units) parts few small is some = by_more one.more 
 
     by_more : (more : List Part) → parts_in (drop one.n units) ≡ Some more
         → parts ≡ with_part one.role (take one.n units) more
-        → ((q : Part) (qs : List Part) → parts_in (drop one.n units) ≡ Some (q ∷ qs) → IsLast (drop one.n units) (q ∷ qs))
+        → ((q : Part) (qs : List Part) → parts_in (drop one.n units) ≡ Some (q ∷ qs)
+        → IsLast (drop one.n units) (q ∷ qs))
         → IsLast (first ∷ units) parts
     by_more [] rest all again = subst (IsLast (first ∷ units)) (sym all)
         (only-last first units one.role one.n one.told one.within (omega (arith, small)) rest)

@@ -1,6 +1,6 @@
 -- The last record of a desk, as it is changed in its place.
-use Rattle.std.proofs.Common.{◌≡◌, ℕ, ◌+◌, ◌-◌, ◌≤◌, ◌<◌, List, [], ◌∷◌, ◌++◌, length, drop, take, refl, sym, ap, ◌∙◌, arith}
-use Rattle.std.proofs.Common.{subst}
+use Rattle.std.proofs.Common.{◌≡◌, ℕ, ◌+◌, ◌-◌, ◌≤◌, ◌<◌, List, [], ◌∷◌, ◌++◌, length, drop, take, refl, sym, ap}
+use Rattle.std.proofs.Common.{◌∙◌, arith, subst}
 use Rattle.std.specs.Prelude.{map, slice_get, slice_index_or, slice_set, unwrap_or, zero, suc, Some}
 use Rattle.std.proofs.lemmas.List.{length-map, map-append, take_all, drop_all, take_more, set_split}
 use Rattle.mf_rows.specs.Units.{Unit16}
@@ -9,7 +9,8 @@ use Rattle.mf_rows.specs.Told.{record_at, IsKept, AreKept, IsChanged}
 use Rattle.mf_rows.specs.Desks.{Desktop, used}
 use Rattle.mf_rows.specs.Changes.{change_last, LastIs, with_last}
 use Rattle.mf_rows.specs.declared.told.Kept.{Kept}
-use Rattle.mf_rows.proofs.KeptLaws.{desktop, records-are, in-use, all-stay, all-same, put-behind, parted, all-closed, front-kept}
+use Rattle.mf_rows.proofs.KeptLaws.{desktop, records-are, in-use, all-stay, all-same, put-behind, parted, all-closed}
+use Rattle.mf_rows.proofs.KeptLaws.{front-kept}
 
 -- ---- the last of a list
 
@@ -118,7 +119,8 @@ module _ (units : List Unit16) (kept : List Kept) (closed cap : ℕ) (d : Deskto
             ∙ ap (λ rs. rs ++ record_at later new ∷ [])
             (sym (all-same units later k.first same-front enough 0 front fronts))
             ∙ ap (λ (r : Record). map (record_at units) front ++ r ∷ []) now.same
-            ∙ sym (change-is f (map (record_at units) front) (record_at units k)) ∙ ap (change_last f) (sym records-so) in
+            ∙ sym (change-is f (map (record_at units) front) (record_at units k))
+            ∙ ap (change_last f) (sym records-so) in
             let empty : drop e later ≡ d.loose = drop_all e later (omega (arith, ends)) ∙ sym none in
             ap (λ rs. record { records = rs; loose = drop e later; capacity = room }) records
             ∙ ap (λ us. record { records = change_last f d.records; loose = us; capacity = room }) empty

@@ -1,7 +1,7 @@
 -- The units of 16 bytes that spell the parts and points of a record: this project's profile, on row kinds. What the
 -- bytes of a part's unit are is this project's own.
-use Rattle.std.specs.Prelude.{◌≡◌, ℕ, zero, suc, ◌+◌, ◌^◌, ◌<◌, nat_le, if◌then◌else◌, List, [], ◌∷◌, map, flat_map, length, take}
-use Rattle.std.specs.Prelude.{drop, bytes_eq, Option, Some, None, option_map}
+use Rattle.std.specs.Prelude.{◌≡◌, ℕ, zero, suc, ◌+◌, ◌^◌, ◌<◌, nat_le, if◌then◌else◌, List, [], ◌∷◌, map, flat_map}
+use Rattle.std.specs.Prelude.{length, take, drop, bytes_eq, Option, Some, None, option_map}
 use Rattle.std.specs.List.{AllByRecursion}
 use Rattle.mf_base.specs.declared.kind.Role.{Role}
 use Rattle.feature_model.specs.Points.{Point, Part}

@@ -1,7 +1,7 @@
 //! The last record of a desk, as it is changed in its place.
 
-ghost use Rattle.std.specs.Prelude.{◌≡◌, ◌+◌, ◌^◌, ◌<◌, ◌≤◌, [], ◌∷◌, ◌++◌, length, vec_len, vec_capacity, IsSome, IfSome};
-ghost use Rattle.std.specs.Prelude.{◌↔◌, IsTrue, nat_lt, false};
+ghost use Rattle.std.specs.Prelude.{◌≡◌, ◌+◌, ◌^◌, ◌<◌, ◌≤◌, [], ◌∷◌, ◌++◌, length, vec_len, vec_capacity};
+ghost use Rattle.std.specs.Prelude.{IsSome, IfSome, ◌↔◌, IsTrue, nat_lt, false};
 ghost use Rattle.mf_base.specs.declared.kind.Role.{Role};
 ghost use Rattle.mf_rows.specs.Units.{point_in, part_in, part_unit as unit_of_part};
 ghost use Rattle.mf_rows.specs.RecordUnits.{AreWide};

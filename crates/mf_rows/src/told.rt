@@ -24,8 +24,8 @@ use arrayvec::ArrayVec;
 use mf_base::kept::{Kept as KeptTag, KeptValue};
 use mf_base::kind::{EntityKind, Role};
 
-/// What a desk keeps of a record: its head, the lengths of its texts, and how many units these take. Of the units that it
-/// is drawn from, the one of the last part stands at `part`.
+/// What a desk keeps of a record: its head, the lengths of its texts, and how many units these take. Of the units that
+/// it is drawn from, the one of the last part stands at `part`.
 #[derive(Drop)]
 pub struct Told {
     pub head: Head,
@@ -151,7 +151,8 @@ fn behind<'a>(first: &[u8; 16], rest: &'a [[u8; 16]]) -> Option<&'a [[u8; 16]]>
     Some(rest.split_at(points as usize).1)
 }
 
-// Where the unit of the last part stands, where units tell what an object of this kind is drawn from, or the front of it.
+// Where the unit of the last part stands, where units tell what an object of this kind is drawn from, or the front of
+// it.
 fn last_drawn(kind: EntityKind, units: &[[u8; 16]]) -> Option<usize>
     ensures there { is_some result ≡ is_drawn kind units.now }
     ensures place { IfSome result (λ n. n ≡ last_place (unwrap_or (drawn_parts kind units.now) [])) }

@@ -2,8 +2,8 @@ use Rattle.std.proofs.Common.{◌≡◌, ◌+◌, ◌-◌, ◌/◌, ◌<◌, ◌
 use Rattle.mf_rows.specs.Records.{Record}
 use Rattle.mf_rows.specs.Changes.{TakesPart, with_new_part}
 use Rattle.mf_rows.proofs.KeptLaws.{in-use, room-is}
-use Rattle.mf_rows.proofs.LastRecord.{some-last, some-kept, last-kept-is, all-closed-is, last-ends, last-record, changed-kept}
-use Rattle.mf_rows.proofs.LastRecord.{changed-seen, changed-used}
+use Rattle.mf_rows.proofs.LastRecord.{some-last, some-kept, last-kept-is, all-closed-is, last-ends, last-record}
+use Rattle.mf_rows.proofs.LastRecord.{changed-kept, changed-seen, changed-used}
 use Rattle.mf_rows.proofs.records.Records.add_part.Goals as goal
 
 pub overflow_sub-last : goal.overflow_sub-last
@@ -12,9 +12,11 @@ overflow_sub-last c =
     let v = c.self.invariant in
     let units = s.units.items in
     let kept = s.kept.items in
+    let cap = vec_capacity s.units in
     let d = c.args.self.now in
-    let some : 0 < length kept =
-    some-kept units kept s.closed (vec_capacity s.units) d v.0 v.1 c.self.view_is (some-last (λ (r : Record). TakesPart c.args.role r.head.kind r.parts) d.records c.requires.last) in
+    let there : 0 < length d.records =
+    some-last (λ (r : Record). TakesPart c.args.role r.head.kind r.parts) d.records c.requires.last in
+    let some : 0 < length kept = some-kept units kept s.closed cap d v.0 v.1 c.self.view_is there in
     omega (arith, some, c.len-last.ensures, s.kept.ok.0)
 
 pub index_mut-requires : goal.index_mut-requires
@@ -23,10 +25,11 @@ index_mut-requires c =
     let v = c.self.invariant in
     let units = s.units.items in
     let kept = s.kept.items in
+    let cap = vec_capacity s.units in
     let d = c.args.self.now in
-    let some : 0 < length kept =
-    some-kept units kept s.closed (vec_capacity s.units) d v.0 v.1 c.self.view_is (some-last (λ (r : Record). TakesPart c.args.role r.head.kind r.parts) d.records c.requires.last) in
-    let end : c.len-last.result - 1 + 1 ≡ length kept = omega (arith, some, c.len-last.ensures, s.kept.ok.0) in
+    let there : 0 < length d.records =
+    some-last (λ (r : Record). TakesPart c.args.role r.head.kind r.parts) d.records c.requires.last in
+    let some : 0 < length kept = some-kept units kept s.closed cap d v.0 v.1 c.self.view_is there in
     omega (arith, some, c.len-last.ensures, s.kept.ok.0)
 
 pub put_part-requires-clause-kept : goal.put_part-requires-clause-kept
@@ -35,11 +38,13 @@ put_part-requires-clause-kept c =
     let v = c.self.invariant in
     let units = s.units.items in
     let kept = s.kept.items in
+    let cap = vec_capacity s.units in
     let d = c.args.self.now in
-    let some : 0 < length kept =
-    some-kept units kept s.closed (vec_capacity s.units) d v.0 v.1 c.self.view_is (some-last (λ (r : Record). TakesPart c.args.role r.head.kind r.parts) d.records c.requires.last) in
+    let there : 0 < length d.records =
+    some-last (λ (r : Record). TakesPart c.args.role r.head.kind r.parts) d.records c.requires.last in
+    let some : 0 < length kept = some-kept units kept s.closed cap d v.0 v.1 c.self.view_is there in
     let end : c.len-last.result - 1 + 1 ≡ length kept = omega (arith, some, c.len-last.ensures, s.kept.ok.0) in
-    last-kept-is units kept s.closed (vec_capacity s.units) d v.0 v.1 c.self.view_is c.requires.none (c.len-last.result - 1)
+    last-kept-is units kept s.closed cap d v.0 v.1 c.self.view_is c.requires.none (c.len-last.result - 1)
     c.index_mut.result.now end c.index_mut.ensures.value
 
 pub put_part-requires-clause-end : goal.put_part-requires-clause-end
@@ -48,11 +53,13 @@ put_part-requires-clause-end c =
     let v = c.self.invariant in
     let units = s.units.items in
     let kept = s.kept.items in
+    let cap = vec_capacity s.units in
     let d = c.args.self.now in
-    let some : 0 < length kept =
-    some-kept units kept s.closed (vec_capacity s.units) d v.0 v.1 c.self.view_is (some-last (λ (r : Record). TakesPart c.args.role r.head.kind r.parts) d.records c.requires.last) in
+    let there : 0 < length d.records =
+    some-last (λ (r : Record). TakesPart c.args.role r.head.kind r.parts) d.records c.requires.last in
+    let some : 0 < length kept = some-kept units kept s.closed cap d v.0 v.1 c.self.view_is there in
     let end : c.len-last.result - 1 + 1 ≡ length kept = omega (arith, some, c.len-last.ensures, s.kept.ok.0) in
-    last-ends units kept s.closed (vec_capacity s.units) d v.0 v.1 c.self.view_is c.requires.none (c.len-last.result - 1)
+    last-ends units kept s.closed cap d v.0 v.1 c.self.view_is c.requires.none (c.len-last.result - 1)
     c.index_mut.result.now end c.index_mut.ensures.value
 
 pub put_part-requires-clause-room : goal.put_part-requires-clause-room
@@ -61,11 +68,12 @@ put_part-requires-clause-room c =
     let v = c.self.invariant in
     let units = s.units.items in
     let kept = s.kept.items in
+    let cap = vec_capacity s.units in
     let d = c.args.self.now in
     omega (
       arith,
-      in-use units kept s.closed (vec_capacity s.units) d v.0 v.1 c.self.view_is,
-      room-is units kept s.closed (vec_capacity s.units) d v.0 v.1 c.self.view_is,
+      in-use units kept s.closed cap d v.0 v.1 c.self.view_is,
+      room-is units kept s.closed cap d v.0 v.1 c.self.view_is,
       s.units.ok.0,
       c.requires.spare,
     )
@@ -76,11 +84,13 @@ put_part-requires-clause-takes c =
     let v = c.self.invariant in
     let units = s.units.items in
     let kept = s.kept.items in
+    let cap = vec_capacity s.units in
     let d = c.args.self.now in
-    let some : 0 < length kept =
-    some-kept units kept s.closed (vec_capacity s.units) d v.0 v.1 c.self.view_is (some-last (λ (r : Record). TakesPart c.args.role r.head.kind r.parts) d.records c.requires.last) in
+    let there : 0 < length d.records =
+    some-last (λ (r : Record). TakesPart c.args.role r.head.kind r.parts) d.records c.requires.last in
+    let some : 0 < length kept = some-kept units kept s.closed cap d v.0 v.1 c.self.view_is there in
     let end : c.len-last.result - 1 + 1 ≡ length kept = omega (arith, some, c.len-last.ensures, s.kept.ok.0) in
-    last-record units kept s.closed (vec_capacity s.units) d v.0 v.1 c.self.view_is c.requires.none (c.len-last.result - 1)
+    last-record units kept s.closed cap d v.0 v.1 c.self.view_is c.requires.none (c.len-last.result - 1)
     c.index_mut.result.now end c.index_mut.ensures.value
     (λ (r : Record). TakesPart c.args.role r.head.kind r.parts) c.requires.last
 
@@ -90,17 +100,21 @@ invariant_of-self c =
     let v = c.self.invariant in
     let units = s.units.items in
     let kept = s.kept.items in
+    let cap = vec_capacity s.units in
     let d = c.args.self.now in
-    let some : 0 < length kept =
-    some-kept units kept s.closed (vec_capacity s.units) d v.0 v.1 c.self.view_is (some-last (λ (r : Record). TakesPart c.args.role r.head.kind r.parts) d.records c.requires.last) in
+    let there : 0 < length d.records =
+    some-last (λ (r : Record). TakesPart c.args.role r.head.kind r.parts) d.records c.requires.last in
+    let some : 0 < length kept = some-kept units kept s.closed cap d v.0 v.1 c.self.view_is there in
     let end : c.len-last.result - 1 + 1 ≡ length kept = omega (arith, some, c.len-last.ensures, s.kept.ok.0) in
-    let later = c.put_part.new.units.items in
-    let closed : length units ≡ s.closed = all-closed-is units kept s.closed (vec_capacity s.units) d v.0 v.1 c.self.view_is c.requires.none (c.len-last.result - 1)
+    let new = c.put_part.new in
+    let f = with_new_part c.args.role in
+    let closed : length units ≡ s.closed =
+    all-closed-is units kept s.closed cap d v.0 v.1 c.self.view_is c.requires.none (c.len-last.result - 1)
     c.index_mut.result.now end c.index_mut.ensures.value in
-    let ends : s.closed + 1 ≡ length later = omega (arith, closed, c.put_part.ensures.longer) in (
-      changed-kept units kept s.closed (vec_capacity s.units) d v.0 v.1 c.self.view_is c.requires.none (c.len-last.result - 1)
+    let ends : s.closed + 1 ≡ length new.units.items = omega (arith, closed, c.put_part.ensures.longer) in (
+      changed-kept units kept s.closed cap d v.0 v.1 c.self.view_is c.requires.none (c.len-last.result - 1)
           c.index_mut.result.now end c.index_mut.ensures.value
-          later c.put_part.new.kept (with_new_part c.args.role) c.put_part.ensures.changed (s.closed + 1) ends,
+          new.units.items new.kept f c.put_part.ensures.changed (s.closed + 1) ends,
       omega (arith, ends),
       v.2 ∙ ap (λ n. n / 10) (sym c.put_part.ensures.capacity),
       rw c.put_part.ensures.capacity v.3,
@@ -112,19 +126,23 @@ returns-clause-added c =
     let v = c.self.invariant in
     let units = s.units.items in
     let kept = s.kept.items in
+    let cap = vec_capacity s.units in
     let d = c.args.self.now in
-    let some : 0 < length kept =
-    some-kept units kept s.closed (vec_capacity s.units) d v.0 v.1 c.self.view_is (some-last (λ (r : Record). TakesPart c.args.role r.head.kind r.parts) d.records c.requires.last) in
+    let there : 0 < length d.records =
+    some-last (λ (r : Record). TakesPart c.args.role r.head.kind r.parts) d.records c.requires.last in
+    let some : 0 < length kept = some-kept units kept s.closed cap d v.0 v.1 c.self.view_is there in
     let end : c.len-last.result - 1 + 1 ≡ length kept = omega (arith, some, c.len-last.ensures, s.kept.ok.0) in
-    let later = c.put_part.new.units.items in
-    let closed : length units ≡ s.closed = all-closed-is units kept s.closed (vec_capacity s.units) d v.0 v.1 c.self.view_is c.requires.none (c.len-last.result - 1)
+    let new = c.put_part.new in
+    let f = with_new_part c.args.role in
+    let closed : length units ≡ s.closed =
+    all-closed-is units kept s.closed cap d v.0 v.1 c.self.view_is c.requires.none (c.len-last.result - 1)
     c.index_mut.result.now end c.index_mut.ensures.value in
-    let ends : s.closed + 1 ≡ length later = omega (arith, closed, c.put_part.ensures.longer) in
-    changed-seen units kept s.closed (vec_capacity s.units) d v.0 v.1 c.self.view_is c.requires.none (c.len-last.result - 1)
+    let ends : s.closed + 1 ≡ length new.units.items = omega (arith, closed, c.put_part.ensures.longer) in
+    changed-seen units kept s.closed cap d v.0 v.1 c.self.view_is c.requires.none (c.len-last.result - 1)
     c.index_mut.result.now end c.index_mut.ensures.value
-    later c.put_part.new.kept (with_new_part c.args.role) c.put_part.ensures.changed (s.closed + 1)
-    (vec_capacity c.put_part.new.units) ends
-    (c.put_part.ensures.capacity ∙ sym (room-is units kept s.closed (vec_capacity s.units) d v.0 v.1 c.self.view_is))
+    new.units.items new.kept f c.put_part.ensures.changed (s.closed + 1)
+    (vec_capacity new.units) ends
+    (c.put_part.ensures.capacity ∙ sym (room-is units kept s.closed cap d v.0 v.1 c.self.view_is))
 
 pub returns-clause-used : goal.returns-clause-used
 returns-clause-used c =
@@ -132,20 +150,24 @@ returns-clause-used c =
     let v = c.self.invariant in
     let units = s.units.items in
     let kept = s.kept.items in
+    let cap = vec_capacity s.units in
     let d = c.args.self.now in
-    let some : 0 < length kept =
-    some-kept units kept s.closed (vec_capacity s.units) d v.0 v.1 c.self.view_is (some-last (λ (r : Record). TakesPart c.args.role r.head.kind r.parts) d.records c.requires.last) in
+    let there : 0 < length d.records =
+    some-last (λ (r : Record). TakesPart c.args.role r.head.kind r.parts) d.records c.requires.last in
+    let some : 0 < length kept = some-kept units kept s.closed cap d v.0 v.1 c.self.view_is there in
     let end : c.len-last.result - 1 + 1 ≡ length kept = omega (arith, some, c.len-last.ensures, s.kept.ok.0) in
-    let later = c.put_part.new.units.items in
-    let closed : length units ≡ s.closed = all-closed-is units kept s.closed (vec_capacity s.units) d v.0 v.1 c.self.view_is c.requires.none (c.len-last.result - 1)
+    let new = c.put_part.new in
+    let f = with_new_part c.args.role in
+    let closed : length units ≡ s.closed =
+    all-closed-is units kept s.closed cap d v.0 v.1 c.self.view_is c.requires.none (c.len-last.result - 1)
     c.index_mut.result.now end c.index_mut.ensures.value in
-    let ends : s.closed + 1 ≡ length later = omega (arith, closed, c.put_part.ensures.longer) in
+    let ends : s.closed + 1 ≡ length new.units.items = omega (arith, closed, c.put_part.ensures.longer) in
     omega (
       arith,
-      changed-used units kept s.closed (vec_capacity s.units) d v.0 v.1 c.self.view_is c.requires.none (c.len-last.result - 1)
+      changed-used units kept s.closed cap d v.0 v.1 c.self.view_is c.requires.none (c.len-last.result - 1)
           c.index_mut.result.now end c.index_mut.ensures.value
-          later c.put_part.new.kept (with_new_part c.args.role) c.put_part.ensures.changed (s.closed + 1)
-          (vec_capacity c.put_part.new.units) ends,
-      in-use units kept s.closed (vec_capacity s.units) d v.0 v.1 c.self.view_is,
+          new.units.items new.kept f c.put_part.ensures.changed (s.closed + 1)
+          (vec_capacity new.units) ends,
+      in-use units kept s.closed cap d v.0 v.1 c.self.view_is,
       c.put_part.ensures.longer,
     )

@@ -11,9 +11,10 @@ overflow_sub-last c =
     let v = c.self.invariant in
     let units = s.units.items in
     let kept = s.kept.items in
+    let cap = vec_capacity s.units in
     let d = c.args.self.now in
-    let some : 0 < length kept =
-    some-kept units kept s.closed (vec_capacity s.units) d v.0 v.1 c.self.view_is (c.requires.some) in
+    let there : 0 < length d.records = c.requires.some in
+    let some : 0 < length kept = some-kept units kept s.closed cap d v.0 v.1 c.self.view_is there in
     omega (arith, some, c.len-last.ensures, s.kept.ok.0)
 
 pub index_mut-requires : goal.index_mut-requires
@@ -22,10 +23,10 @@ index_mut-requires c =
     let v = c.self.invariant in
     let units = s.units.items in
     let kept = s.kept.items in
+    let cap = vec_capacity s.units in
     let d = c.args.self.now in
-    let some : 0 < length kept =
-    some-kept units kept s.closed (vec_capacity s.units) d v.0 v.1 c.self.view_is (c.requires.some) in
-    let end : c.len-last.result - 1 + 1 ≡ length kept = omega (arith, some, c.len-last.ensures, s.kept.ok.0) in
+    let there : 0 < length d.records = c.requires.some in
+    let some : 0 < length kept = some-kept units kept s.closed cap d v.0 v.1 c.self.view_is there in
     omega (arith, some, c.len-last.ensures, s.kept.ok.0)
 
 pub put_feature-requires-clause-kept : goal.put_feature-requires-clause-kept
@@ -34,11 +35,12 @@ put_feature-requires-clause-kept c =
     let v = c.self.invariant in
     let units = s.units.items in
     let kept = s.kept.items in
+    let cap = vec_capacity s.units in
     let d = c.args.self.now in
-    let some : 0 < length kept =
-    some-kept units kept s.closed (vec_capacity s.units) d v.0 v.1 c.self.view_is (c.requires.some) in
+    let there : 0 < length d.records = c.requires.some in
+    let some : 0 < length kept = some-kept units kept s.closed cap d v.0 v.1 c.self.view_is there in
     let end : c.len-last.result - 1 + 1 ≡ length kept = omega (arith, some, c.len-last.ensures, s.kept.ok.0) in
-    last-kept-is units kept s.closed (vec_capacity s.units) d v.0 v.1 c.self.view_is c.requires.none (c.len-last.result - 1)
+    last-kept-is units kept s.closed cap d v.0 v.1 c.self.view_is c.requires.none (c.len-last.result - 1)
     c.index_mut.result.now end c.index_mut.ensures.value
 
 pub put_feature-requires-clause-end : goal.put_feature-requires-clause-end
@@ -47,11 +49,12 @@ put_feature-requires-clause-end c =
     let v = c.self.invariant in
     let units = s.units.items in
     let kept = s.kept.items in
+    let cap = vec_capacity s.units in
     let d = c.args.self.now in
-    let some : 0 < length kept =
-    some-kept units kept s.closed (vec_capacity s.units) d v.0 v.1 c.self.view_is (c.requires.some) in
+    let there : 0 < length d.records = c.requires.some in
+    let some : 0 < length kept = some-kept units kept s.closed cap d v.0 v.1 c.self.view_is there in
     let end : c.len-last.result - 1 + 1 ≡ length kept = omega (arith, some, c.len-last.ensures, s.kept.ok.0) in
-    last-ends units kept s.closed (vec_capacity s.units) d v.0 v.1 c.self.view_is c.requires.none (c.len-last.result - 1)
+    last-ends units kept s.closed cap d v.0 v.1 c.self.view_is c.requires.none (c.len-last.result - 1)
     c.index_mut.result.now end c.index_mut.ensures.value
 
 pub invariant_of-self : goal.invariant_of-self
@@ -60,17 +63,20 @@ invariant_of-self c =
     let v = c.self.invariant in
     let units = s.units.items in
     let kept = s.kept.items in
+    let cap = vec_capacity s.units in
     let d = c.args.self.now in
-    let some : 0 < length kept =
-    some-kept units kept s.closed (vec_capacity s.units) d v.0 v.1 c.self.view_is (c.requires.some) in
+    let there : 0 < length d.records = c.requires.some in
+    let some : 0 < length kept = some-kept units kept s.closed cap d v.0 v.1 c.self.view_is there in
     let end : c.len-last.result - 1 + 1 ≡ length kept = omega (arith, some, c.len-last.ensures, s.kept.ok.0) in
-    let later = c.put_feature.new.units.items in
-    let closed : length units ≡ s.closed = all-closed-is units kept s.closed (vec_capacity s.units) d v.0 v.1 c.self.view_is c.requires.none (c.len-last.result - 1)
+    let new = c.put_feature.new in
+    let f = with_feature c.args.number c.args.weight in
+    let closed : length units ≡ s.closed =
+    all-closed-is units kept s.closed cap d v.0 v.1 c.self.view_is c.requires.none (c.len-last.result - 1)
     c.index_mut.result.now end c.index_mut.ensures.value in
-    let ends : s.closed ≡ length later = omega (arith, closed, c.put_feature.ensures.as_long) in (
-      changed-kept units kept s.closed (vec_capacity s.units) d v.0 v.1 c.self.view_is c.requires.none (c.len-last.result - 1)
+    let ends : s.closed ≡ length new.units.items = omega (arith, closed, c.put_feature.ensures.as_long) in (
+      changed-kept units kept s.closed cap d v.0 v.1 c.self.view_is c.requires.none (c.len-last.result - 1)
           c.index_mut.result.now end c.index_mut.ensures.value
-          later c.put_feature.new.kept (with_feature c.args.number c.args.weight) c.put_feature.ensures.changed (s.closed) ends,
+          new.units.items new.kept f c.put_feature.ensures.changed (s.closed) ends,
       omega (arith, ends),
       v.2 ∙ ap (λ n. n / 10) (sym c.put_feature.ensures.capacity),
       rw c.put_feature.ensures.capacity v.3,
@@ -82,19 +88,22 @@ returns-clause-set c =
     let v = c.self.invariant in
     let units = s.units.items in
     let kept = s.kept.items in
+    let cap = vec_capacity s.units in
     let d = c.args.self.now in
-    let some : 0 < length kept =
-    some-kept units kept s.closed (vec_capacity s.units) d v.0 v.1 c.self.view_is (c.requires.some) in
+    let there : 0 < length d.records = c.requires.some in
+    let some : 0 < length kept = some-kept units kept s.closed cap d v.0 v.1 c.self.view_is there in
     let end : c.len-last.result - 1 + 1 ≡ length kept = omega (arith, some, c.len-last.ensures, s.kept.ok.0) in
-    let later = c.put_feature.new.units.items in
-    let closed : length units ≡ s.closed = all-closed-is units kept s.closed (vec_capacity s.units) d v.0 v.1 c.self.view_is c.requires.none (c.len-last.result - 1)
+    let new = c.put_feature.new in
+    let f = with_feature c.args.number c.args.weight in
+    let closed : length units ≡ s.closed =
+    all-closed-is units kept s.closed cap d v.0 v.1 c.self.view_is c.requires.none (c.len-last.result - 1)
     c.index_mut.result.now end c.index_mut.ensures.value in
-    let ends : s.closed ≡ length later = omega (arith, closed, c.put_feature.ensures.as_long) in
-    changed-seen units kept s.closed (vec_capacity s.units) d v.0 v.1 c.self.view_is c.requires.none (c.len-last.result - 1)
+    let ends : s.closed ≡ length new.units.items = omega (arith, closed, c.put_feature.ensures.as_long) in
+    changed-seen units kept s.closed cap d v.0 v.1 c.self.view_is c.requires.none (c.len-last.result - 1)
     c.index_mut.result.now end c.index_mut.ensures.value
-    later c.put_feature.new.kept (with_feature c.args.number c.args.weight) c.put_feature.ensures.changed (s.closed)
-    (vec_capacity c.put_feature.new.units) ends
-    (c.put_feature.ensures.capacity ∙ sym (room-is units kept s.closed (vec_capacity s.units) d v.0 v.1 c.self.view_is))
+    new.units.items new.kept f c.put_feature.ensures.changed (s.closed)
+    (vec_capacity new.units) ends
+    (c.put_feature.ensures.capacity ∙ sym (room-is units kept s.closed cap d v.0 v.1 c.self.view_is))
 
 pub returns-clause-used : goal.returns-clause-used
 returns-clause-used c =
@@ -102,20 +111,23 @@ returns-clause-used c =
     let v = c.self.invariant in
     let units = s.units.items in
     let kept = s.kept.items in
+    let cap = vec_capacity s.units in
     let d = c.args.self.now in
-    let some : 0 < length kept =
-    some-kept units kept s.closed (vec_capacity s.units) d v.0 v.1 c.self.view_is (c.requires.some) in
+    let there : 0 < length d.records = c.requires.some in
+    let some : 0 < length kept = some-kept units kept s.closed cap d v.0 v.1 c.self.view_is there in
     let end : c.len-last.result - 1 + 1 ≡ length kept = omega (arith, some, c.len-last.ensures, s.kept.ok.0) in
-    let later = c.put_feature.new.units.items in
-    let closed : length units ≡ s.closed = all-closed-is units kept s.closed (vec_capacity s.units) d v.0 v.1 c.self.view_is c.requires.none (c.len-last.result - 1)
+    let new = c.put_feature.new in
+    let f = with_feature c.args.number c.args.weight in
+    let closed : length units ≡ s.closed =
+    all-closed-is units kept s.closed cap d v.0 v.1 c.self.view_is c.requires.none (c.len-last.result - 1)
     c.index_mut.result.now end c.index_mut.ensures.value in
-    let ends : s.closed ≡ length later = omega (arith, closed, c.put_feature.ensures.as_long) in
+    let ends : s.closed ≡ length new.units.items = omega (arith, closed, c.put_feature.ensures.as_long) in
     omega (
       arith,
-      changed-used units kept s.closed (vec_capacity s.units) d v.0 v.1 c.self.view_is c.requires.none (c.len-last.result - 1)
+      changed-used units kept s.closed cap d v.0 v.1 c.self.view_is c.requires.none (c.len-last.result - 1)
           c.index_mut.result.now end c.index_mut.ensures.value
-          later c.put_feature.new.kept (with_feature c.args.number c.args.weight) c.put_feature.ensures.changed (s.closed)
-          (vec_capacity c.put_feature.new.units) ends,
-      in-use units kept s.closed (vec_capacity s.units) d v.0 v.1 c.self.view_is,
+          new.units.items new.kept f c.put_feature.ensures.changed (s.closed)
+          (vec_capacity new.units) ends,
+      in-use units kept s.closed cap d v.0 v.1 c.self.view_is,
       c.put_feature.ensures.as_long,
     )
