@@ -85,3 +85,6 @@ fn product(a: i64, b: i64) -> i128
 {
     i128::from(a) * i128::from(b)
 }
+
+#[cfg(test)]
+mod tests;
