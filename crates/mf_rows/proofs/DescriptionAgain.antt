@@ -9,11 +9,11 @@ use Rattle.mf_base.specs.Texts.{Text}
 use Rattle.mf_base.specs.declared.kept.Kept.{Kept as KeptRead}
 use Rattle.feature_model.specs.Mapping as model
 use Rattle.feature_model.specs.Choice.{Kept}
-use Rattle.feature_model.specs.Descriptions.{Description}
+use Rattle.feature_model.specs.Descriptions.{Description, kept_text}
 use Rattle.mf_rows.specs.Records.{same_slot, text_in, kept_told, description_told}
 use Rattle.mf_rows.specs.RecordUnits.{kept_size, tag_sizes, is_size}
 use Rattle.mf_rows.specs.Whole.{sizes_of, with_text, AreTexts}
-use Rattle.mf_rows.specs.Described.{short_value, short_kept, head_of, value_text, slot_text, tag_texts, texts_of}
+use Rattle.mf_rows.specs.Described.{short_value, short_kept, head_of, slot_text, tag_texts, texts_of}
 use Rattle.mf_rows.specs.Described.{IsShortText, HasShortTexts}
 use Rattle.mf_rows.specs.declared.head.TextSlot.{TextSlot}
 use Rattle.mf_rows.specs.declared.head.TextSlot.TheVariants.{Name, House, Reference, Tag}
@@ -36,13 +36,13 @@ here s (Some text) rest same none = rw same refl
 no-tag : (slot : TextSlot) (i : ℕ) (tags : List Kept) → ((j : ℕ) → same_slot (Tag j) slot ≡ false)
     → text_in (tag_texts i tags) slot ≡ None
 no-tag slot i [] other = refl
-no-tag slot i (k ∷ tags) other = skip (Tag i) slot (value_text k.value) (tag_texts (i + 1) tags) (other i)
+no-tag slot i (k ∷ tags) other = skip (Tag i) slot (kept_text k.value) (tag_texts (i + 1) tags) (other i)
     ∙ no-tag slot (i + 1) tags other
 
 -- later tags are not this one
 no-later : (j i : ℕ) (tags : List Kept) → j + 1 ≤ i → text_in (tag_texts i tags) (Tag j) ≡ None
 no-later j i [] past = refl
-no-later j i (k ∷ tags) past = skip (Tag i) (Tag j) (value_text k.value) (tag_texts (i + 1) tags)
+no-later j i (k ∷ tags) past = skip (Tag i) (Tag j) (kept_text k.value) (tag_texts (i + 1) tags)
     (ne_eqb i j (λ same. omega (arith, same, past))) ∙ no-later j (i + 1) tags (omega (arith, past))
 
 -- what stands before, and has no text of the slot, changes nothing
@@ -60,11 +60,11 @@ behind (t ∷ before) rest slot none = by_slot (cases_Bool (same_slot t.0 slot))
 -- ---- kept tags
 
 value-told : (texts : List (TextSlot × Text)) (i : ℕ) (k : Kept)
-    → IfSome (value_text k.value) (λ text. text_in texts (Tag i) ≡ Some text)
+    → IfSome (kept_text k.value) (λ text. text_in texts (Tag i) ≡ Some text)
     → kept_told texts (i, short_kept k) ≡ k
 value-told texts i k found = by_value k.value found
   where
-    by_value : (v : model.KeptValue) → IfSome (value_text v) (λ text. text_in texts (Tag i) ≡ Some text)
+    by_value : (v : model.KeptValue) → IfSome (kept_text v) (λ text. text_in texts (Tag i) ≡ Some text)
         → kept_told texts (i, record { tag = k.tag; value = short_value v }) ≡ record { tag = k.tag; value = v }
     by_value model.KeptValue.plain found = refl
     by_value (model.KeptValue.byte z) found = refl
@@ -91,14 +91,14 @@ tags-told : (before : List (TextSlot × Text)) (i : ℕ) (tags : List Kept)
     → map (kept_told (before ++ tag_texts i tags)) (enumerate_from i (map short_kept tags)) ≡ tags
 tags-told before i [] none = refl
 tags-told before i (k ∷ tags) none =
-    let texts : List (TextSlot × Text) = before ++ (slot_text (Tag i) (value_text k.value) ++ tag_texts (i + 1) tags) in
-    let more : List (TextSlot × Text) = before ++ slot_text (Tag i) (value_text k.value) in
+    let texts : List (TextSlot × Text) = before ++ (slot_text (Tag i) (kept_text k.value) ++ tag_texts (i + 1) tags) in
+    let more : List (TextSlot × Text) = before ++ slot_text (Tag i) (kept_text k.value) in
     let same : texts ≡ more ++ tag_texts (i + 1) tags =
-    sym (append_assoc before (slot_text (Tag i) (value_text k.value)) (tag_texts (i + 1) tags)) in
+    sym (append_assoc before (slot_text (Tag i) (kept_text k.value)) (tag_texts (i + 1) tags)) in
     let one : kept_told texts (i, short_kept k) ≡ k =
-    value-told texts i k (found-text before i (value_text k.value) (tag_texts (i + 1) tags) (none i (omega arith))) in
+    value-told texts i k (found-text before i (kept_text k.value) (tag_texts (i + 1) tags) (none i (omega arith))) in
     let rest : map (kept_told (more ++ tag_texts (i + 1) tags)) (enumerate_from (i + 1) (map short_kept tags)) ≡ tags =
-    tags-told more (i + 1) tags (λ j past. none-more before i j (value_text k.value) past
+    tags-told more (i + 1) tags (λ j past. none-more before i j (kept_text k.value) past
     (none j (omega (arith, past)))) in
     ap (λ x. x ∷ map (kept_told texts) (enumerate_from (i + 1) (map short_kept tags))) one
     ∙ ap (λ ts. k ∷ map (kept_told ts) (enumerate_from (i + 1) (map short_kept tags))) same
@@ -160,7 +160,7 @@ module _ (d : Description) where
         let some : nat_eq (length text) 0 ≡ false = ne_eqb (length text) 0 (λ none. omega (arith, none, is.0)) in
         rw some (ap (λ more. (s, length text) ∷ more) are)
 
-    kept-size : (v : model.KeptValue) → kept_size (short_value v) ≡ length (unwrap_or (value_text v) [])
+    kept-size : (v : model.KeptValue) → kept_size (short_value v) ≡ length (unwrap_or (kept_text v) [])
     kept-size model.KeptValue.plain = refl
     kept-size (model.KeptValue.byte z) = refl
     kept-size (model.KeptValue.short z) = refl
@@ -168,11 +168,11 @@ module _ (d : Description) where
     kept-size (model.KeptValue.text text) = refl
 
     tags-there : (i : ℕ) (ks : List Kept)
-        → AllByRecursion (λ (k : Kept). IfSome (value_text k.value) IsShortText) ks
+        → AllByRecursion (λ (k : Kept). IfSome (kept_text k.value) IsShortText) ks
         → sizes_of (tag_texts i ks) ≡ with_text (tag_sizes i (map short_kept ks))
     tags-there i [] all = refl
     tags-there i (k ∷ ks) all =
-        size-there (Tag i) (value_text k.value) (tag_texts (i + 1) ks) (tag_sizes (i + 1) (map short_kept ks)) all.0
+        size-there (Tag i) (kept_text k.value) (tag_texts (i + 1) ks) (tag_sizes (i + 1) (map short_kept ks)) all.0
         (tags-there (i + 1) ks all.1)
         ∙ ap (λ n. with_text ((Tag i, n) ∷ tag_sizes (i + 1) (map short_kept ks))) (sym (kept-size k.value))
 
@@ -197,7 +197,7 @@ module _ (d : Description) where
     few None is = refl
     few (Some text) is = le-leb (length text) 1020 is.1
 
-    one-fits : (v : model.KeptValue) → IfSome (value_text v) IsShortText → is_size (short_value v) ≡ true
+    one-fits : (v : model.KeptValue) → IfSome (kept_text v) IsShortText → is_size (short_value v) ≡ true
     one-fits model.KeptValue.plain is = refl
     one-fits (model.KeptValue.byte z) is = refl
     one-fits (model.KeptValue.short z) is = refl
@@ -205,7 +205,7 @@ module _ (d : Description) where
     one-fits (model.KeptValue.text text) is =
         and_from _ _ (le-leb 1 (length text) is.0) (le-leb (length text) 1020 is.1)
 
-    all-fit : (ks : List Kept) → AllByRecursion (λ (k : Kept). IfSome (value_text k.value) IsShortText) ks
+    all-fit : (ks : List Kept) → AllByRecursion (λ (k : Kept). IfSome (kept_text k.value) IsShortText) ks
         → list_all (λ (k : KeptRead). is_size k.value) (map short_kept ks) ≡ true
     all-fit [] all = refl
     all-fit (k ∷ ks) all = and_from _ _ (one-fits k.value all.0) (all-fit ks all.1)

@@ -18,3 +18,4 @@ pub mod LastRecord
 pub mod ReadAgain
 pub mod DescriptionAgain
 pub mod TextsAgain
+pub mod Counted

@@ -134,7 +134,7 @@ module _ (bytes : List ℕ) where
       ∙ ap (take (16 * size)) (sym (append_assoc bytes (replicate pad 0) (replicate (16 - pad) 0)))
       ∙ take_at (bytes ++ replicate pad 0) (replicate (16 - pad) 0) (16 * size) long
 
-  units-long : length (text_units bytes) ≡ size
+  pub units-long : length (text_units bytes) ≡ size
   units-long = cut-long size (take (16 * size) (bytes ++ replicate 16 0))
 
   units-are : bytes_in (text_units bytes) ≡ bytes ++ replicate pad 0

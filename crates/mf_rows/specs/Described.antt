@@ -7,7 +7,7 @@ use Rattle.mf_base.specs.declared.kept.KeptValue.{KeptValue}
 use Rattle.mf_base.specs.declared.kept.KeptValue.TheVariants as read
 use Rattle.feature_model.specs.Mapping as model
 use Rattle.feature_model.specs.Choice.{Kept}
-use Rattle.feature_model.specs.Descriptions.{Description}
+use Rattle.feature_model.specs.Descriptions.{Description, kept_text}
 use Rattle.mf_rows.specs.declared.head.Head.{Head}
 use Rattle.mf_rows.specs.declared.head.TextSlot.{TextSlot}
 use Rattle.mf_rows.specs.declared.head.TextSlot.TheVariants.{Name, House, Reference, Tag}
@@ -39,11 +39,6 @@ head_of d = record {
   tags = record { items = map short_kept d.choice.tags };
 }
 
--- the text of a value that is one
-abbrev pub value_text : model.KeptValue → Option Text
-value_text (model.KeptValue.text text) = Some text
-value_text _ = None
-
 -- the text of a slot, where there is one
 abbrev pub slot_text : TextSlot → Option Text → List (TextSlot × Text)
 slot_text slot None = []
@@ -52,7 +47,7 @@ slot_text slot (Some text) = (slot, text) ∷ []
 -- the texts of kept tags, from this place on
 abbrev pub tag_texts : ℕ → List Kept → List (TextSlot × Text)
 tag_texts i [] = []
-tag_texts i (k ∷ tags) = slot_text (Tag i) (value_text k.value) ++ tag_texts (i + 1) tags
+tag_texts i (k ∷ tags) = slot_text (Tag i) (kept_text k.value) ++ tag_texts (i + 1) tags
 
 -- the texts of a description, in the order of their slots
 abbrev pub texts_of : Description → List (TextSlot × Text)
@@ -68,4 +63,4 @@ pub record HasShortTexts (d : Description) : Type 0 where
   pub name : IfSome d.name IsShortText
   pub house : IfSome d.house IsShortText
   pub reference : IfSome d.reference IsShortText
-  pub tags : AllByRecursion (λ (k : Kept). IfSome (value_text k.value) IsShortText) d.choice.tags
+  pub tags : AllByRecursion (λ (k : Kept). IfSome (kept_text k.value) IsShortText) d.choice.tags

@@ -4,16 +4,17 @@ ghost use Rattle.std.specs.Prelude.{◌≡◌, ℕ, ◌^◌, ◌<◌, List, Some
 ghost use Rattle.std.specs.List.{AllByRecursion};
 ghost use Rattle.mf_base.specs.declared.kind.Role.{Role};
 ghost use Rattle.feature_model.specs.Points.{Part};
-ghost use Rattle.std.specs.Prelude.{take, drop, map, [], ◌∷◌, ◌++◌, true};
+ghost use Rattle.std.specs.Prelude.{length, take, drop, map, [], ◌∷◌, ◌++◌, true};
 ghost use Rattle.mf_rows.specs.Records.{Record, description_told};
 ghost use Rattle.mf_rows.specs.RecordUnits.{AreWide, front_count, is_drawn, record_in, redrawn, units_of};
+ghost use Rattle.mf_rows.specs.RecordUnits.{unit_count, text_bytes};
 ghost use Rattle.mf_rows.specs.declared.head.Head.{Head};
 ghost use Rattle.mf_rows.specs.declared.head_units.TextLengths.{TextLengths};
 ghost use Rattle.mf_rows.specs.Heads.{head_unit, head_in};
 ghost use Rattle.mf_rows.specs.FirstUnits.{IsHead, AreLengths, front_record, front_units};
 ghost use Rattle.mf_rows.specs.Whole.{AreTexts, IsWhole};
 ghost use Rattle.mf_rows.specs.Described.{head_of, texts_of, HasShortTexts};
-ghost use Rattle.feature_model.specs.Descriptions.{Description};
+ghost use Rattle.feature_model.specs.Descriptions.{Description, texts_length};
 ghost use Rattle.mf_rows.specs.declared.head.TextSlot.{TextSlot};
 ghost use Rattle.mf_base.specs.Texts.{Text};
 ghost use Rattle.mf_rows.specs.Units.{Unit16, part_unit, part_in, parts_units, parts_in, IsPart};
@@ -67,4 +68,11 @@ pub fn a_record_is_read_back()
 pub fn a_description_is_told_back()
     ensures told { (d : Description) → description_told (head_of d) (texts_of d) ≡ d }
     ensures texts { (d : Description) → HasShortTexts d → AreTexts (head_of d) (texts_of d) }
+{}
+
+/// How many units a record has, and how many bytes the texts of a description.
+pub fn units_are_counted()
+    ensures front { (r : Record) → length (front_units r) ≡ front_count r }
+    ensures all { (r : Record) → IsWhole r → length (units_of r) ≡ unit_count r }
+    ensures texts { (d : Description) → length (text_bytes (texts_of d)) ≡ texts_length d }
 {}
