@@ -1,85 +1,23 @@
 -- The rings of a feature, one after another.
-use Rattle.std.proofs.Common.{◌≡◌, ◌⊎◌, inl, inr, Bool, true, false, not, List, [], ◌∷◌, ◌++◌, map, drop, Option, Some, None}
-use Rattle.std.proofs.Common.{refl, sym, ap, ◌∙◌, subst, append_assoc}
-use Rattle.std.specs.Prelude.{◌&&◌, slice_get, flat_map, IsTrue}
+use Rattle.std.proofs.Common.{◌≡◌, ◌⊎◌, inl, inr, Bool, true, false, not, List, [], ◌∷◌, ◌++◌, map, Option}
+use Rattle.std.proofs.Common.{refl, sym, ap, ◌∙◌, subst}
+use Rattle.std.specs.Prelude.{◌&&◌, flat_map}
 use Rattle.std.specs.List.{list_any, list_all}
-use Rattle.std.proofs.lemmas.Bool.{cases_Bool}
-use Rattle.std.proofs.lemmas.Option.{none-some, same_Some}
 use Rattle.mf_base.specs.declared.kind.EntityKind.{EntityKind}
-use Rattle.mf_base.specs.declared.kind.Role.{Role}
 use Rattle.mf_base.specs.declared.tile.TilePlace.{TilePlace}
 use Rattle.feature_model.specs.Inside.{Ring, edges, inside}
 use Rattle.feature_model.specs.Points.{Point, Part}
 use Rattle.feature_model.specs.Blocks.{places, is_outer, inner_before, blocks_in}
-use Rattle.feature_model.specs.Features.{Shape, Block, drawn_blocks}
+use Rattle.feature_model.specs.Features.{Block, drawn_blocks}
 use Rattle.map_model.specs.Rectangles.{blocks_of_shape, rings_of}
 use Rattle.map_model.specs.Labels.{is_closed}
 use Rattle.map_model.specs.SubFile.{edge_meets, covers}
 use Rattle.map_model.specs.TileBytes.{tile_corner}
 use Rattle.mf_rows.specs.Records.{Record, candidate_told}
-use Rattle.mf_rows.specs.Units.{shown_part}
 use Rattle.mf_rows.specs.Shapes.{drawn_of, shape_told, feature_told, AreRings, HasShape, IsFeature}
 use Rattle.ring_assembly.specs.Edges.{part_rings}
-use Rattle.ring_assembly.proofs.Crossings.{shown_first, inside-none}
-use Rattle.tile_index.specs.Walks.{has_corner, rings_cover}
-use Rattle.tile_index.proofs.Tests.{all-more, all-less, any-behind, any-before}
-
--- ---- the next ring
-
-module _ (rings : List Part) where
-  module _ (role : Role) (points : List Point) (head : Some (shown_part role points) ≡ slice_get rings 0) where
-    -- the rings are the next one and those behind it
-    split : (more : List Part) → more ≡ drop 1 rings → part_rings rings ≡ places points ∷ part_rings more
-    split more tail = by_rings rings head tail
-      where
-        by_rings : (all : List Part) → Some (shown_part role points) ≡ slice_get all 0 → more ≡ drop 1 all
-            → part_rings all ≡ places points ∷ part_rings more
-        by_rings [] e t = absurd (none-some _ (sym e))
-        by_rings (part ∷ rest) e t =
-            ap (λ (q : Part). places q.points ∷ part_rings rest) (sym (same_Some (shown_part role points) part e))
-            ∙ ap (λ (ps : List Part). places points ∷ part_rings ps) (sym t)
-
-    module _ (more : List Part) (tail : more ≡ drop 1 rings) where
-      pub next-closed : (here : Bool) → here ≡ is_closed (places points) → here ≡ true
-          → list_all is_closed (part_rings more) ≡ list_all is_closed (part_rings rings)
-      next-closed here is holds =
-          all-more is_closed (places points) (part_rings more) (sym is ∙ holds)
-          ∙ ap (list_all is_closed) (sym (split more tail))
-
-      pub next-open : (here : Bool) → here ≡ is_closed (places points) → here ≡ false
-          → false ≡ list_all is_closed (part_rings rings)
-      next-open here is fails =
-          all-less is_closed (places points) (part_rings more) (sym is ∙ fails)
-          ∙ ap (list_all is_closed) (sym (split more tail))
-
-      pub ring-misses : (tile : TilePlace) (here : Bool)
-          → here ≡ list_any (edge_meets tile) (edges (places points)) → here ≡ false
-          → list_any (edge_meets tile) (flat_map edges (part_rings more))
-          ≡ list_any (edge_meets tile) (flat_map edges (part_rings rings))
-      ring-misses tile here is fails =
-          any-behind (edge_meets tile) (edges (places points)) (flat_map edges (part_rings more)) (sym is ∙ fails)
-          ∙ ap (λ (rs : List Ring). list_any (edge_meets tile) (flat_map edges rs)) (sym (split more tail))
-
-      pub ring-meets : (tile : TilePlace) (here : Bool)
-          → here ≡ list_any (edge_meets tile) (edges (places points)) → here ≡ true
-          → true ≡ list_any (edge_meets tile) (flat_map edges (part_rings rings))
-      ring-meets tile here is holds =
-          any-before (edge_meets tile) (edges (places points)) (flat_map edges (part_rings more)) (sym is ∙ holds)
-          ∙ ap (λ (rs : List Ring). list_any (edge_meets tile) (flat_map edges rs)) (sym (split more tail))
-
-  module _ (none : shown_first None ≡ slice_get rings 0) where
-    none_left : part_rings rings ≡ []
-    none_left = by_rings rings none
-      where
-        by_rings : (all : List Part) → shown_first None ≡ slice_get all 0 → part_rings all ≡ []
-        by_rings [] e = refl
-        by_rings (part ∷ rest) e = absurd (none-some _ e)
-
-    pub all-closed : true ≡ list_all is_closed (part_rings rings)
-    all-closed = ap (list_all is_closed) (sym none_left)
-
-    pub no-meets : (tile : TilePlace) → false ≡ list_any (edge_meets tile) (flat_map edges (part_rings rings))
-    no-meets tile = ap (λ (rs : List Ring). list_any (edge_meets tile) (flat_map edges rs)) (sym none_left)
+use Rattle.ring_assembly.proofs.Crossings.{inside-none}
+use Rattle.tile_index.specs.Walks.{rings_cover}
 
 -- ---- the rings of the feature that a record is
 

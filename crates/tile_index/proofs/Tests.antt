@@ -1,43 +1,15 @@
 -- Tests of all or some of a list, one more at a time.
-use Rattle.std.proofs.Common.{◌≡◌, ℕ, zero, suc, ◌+◌, Bool, true, false, List, [], ◌∷◌, ◌++◌, map, drop, length}
-use Rattle.std.proofs.Common.{Some, refl, sym, ap, ◌∙◌, arith, subst, ◌⊎◌, inl, inr}
-use Rattle.std.proofs.lemmas.Bool.{cases_Bool}
-use Rattle.std.specs.Prelude.{slice_get, if◌then◌else◌}
-use Rattle.std.specs.List.{list_any, list_all, AllByRecursion}
+use Rattle.std.proofs.Common.{◌≡◌, ℕ, zero, suc, ◌+◌, Bool, true, false, List, [], ◌∷◌, map, drop, length}
+use Rattle.std.proofs.Common.{Some, refl, sym, ap, ◌∙◌, arith, subst}
+use Rattle.std.specs.Prelude.{slice_get}
+use Rattle.std.specs.List.{list_any, AllByRecursion}
 use Rattle.std.proofs.lemmas.Option.{none-some, same_Some}
-
-pub all-more : {A : Type 0} (p : A → Bool) (x : A) (xs : List A) → p x ≡ true → list_all p xs ≡ list_all p (x ∷ xs)
-all-more p x xs h = rw h refl
-
-pub all-less : {A : Type 0} (p : A → Bool) (x : A) (xs : List A) → p x ≡ false → false ≡ list_all p (x ∷ xs)
-all-less p x xs h = rw h refl
 
 pub any-more : {A : Type 0} (p : A → Bool) (x : A) (xs : List A) → p x ≡ false → list_any p xs ≡ list_any p (x ∷ xs)
 any-more p x xs h = rw h refl
 
 pub any-here : {A : Type 0} (p : A → Bool) (x : A) (xs : List A) → p x ≡ true → true ≡ list_any p (x ∷ xs)
 any-here p x xs h = rw h refl
-
-any-joined : {A : Type 0} (p : A → Bool) (xs ys : List A) (b : Bool) → list_any p xs ≡ b
-    → list_any p (xs ++ ys) ≡ (if b then true else list_any p ys)
-any-joined p [] ys b h = ap (λ c. if c then true else list_any p ys) h
-any-joined p (x ∷ xs) ys b h = by_first (cases_Bool (p x)) (λ e. any-joined p xs ys b e)
-  where
-    by_first : (p x ≡ true) ⊎ (p x ≡ false)
-        → (list_any p xs ≡ b → list_any p (xs ++ ys) ≡ (if b then true else list_any p ys))
-        → list_any p (x ∷ xs ++ ys) ≡ (if b then true else list_any p ys)
-    by_first (inl e) more =
-        sym (any-here p x (xs ++ ys) e) ∙ ap (λ c. if c then true else list_any p ys) (any-here p x xs e ∙ h)
-    by_first (inr e) more = sym (any-more p x (xs ++ ys) e) ∙ more (any-more p x xs e ∙ h)
-
--- none in front
-pub any-behind : {A : Type 0} (p : A → Bool) (xs ys : List A) → list_any p xs ≡ false
-    → list_any p ys ≡ list_any p (xs ++ ys)
-any-behind p xs ys h = sym (any-joined p xs ys false h)
-
--- some in front
-pub any-before : {A : Type 0} (p : A → Bool) (xs ys : List A) → list_any p xs ≡ true → true ≡ list_any p (xs ++ ys)
-any-before p xs ys h = sym (any-joined p xs ys true h)
 
 -- ---- by places
 
@@ -47,12 +19,6 @@ drop-at (y ∷ xs) zero x e = ap (λ z. z ∷ xs) (sym (same_Some x y e))
 drop-at (y ∷ xs) (suc i) x e =
     let next : suc (i + 1) ≡ suc i + 1 = omega arith in
     drop-at xs i x e ∙ ap (λ k. x ∷ drop k (y ∷ xs)) next
-
-pub all-at : {A : Type 0} (P : A → Type 0) (xs : List A) (i : ℕ) (x : A) → AllByRecursion P xs → Some x ≡ slice_get xs i
-    → P x
-all-at P [] i x all e = absurd (none-some x (sym e))
-all-at P (y ∷ xs) zero x all e = subst P (sym (same_Some x y e)) all.0
-all-at P (y ∷ xs) (suc i) x all e = all-at P xs i x all.1 e
 
 -- what holds of some of those from a place on
 pub some_left : {A B : Type 0} (p : B → Bool) (f : A → B) (xs : List A) (i : ℕ) (x : A) → Some x ≡ slice_get xs i

@@ -1,4 +1,4 @@
-use Rattle.std.proofs.Common.{◌≡◌, ◌+◌, ◌-◌, ◌*◌, ◌∙◌, suc, sym, rules}
+use Rattle.std.proofs.Common.{◌≡◌, ◌+◌, ◌*◌, ◌∙◌, sym, rules}
 use Rattle.map_model.specs.TileRects.{tile_count}
 use Rattle.map_model.proofs.TileLaws.{tiles-length}
 use Rattle.tile_index.proofs.entry.entry_count.Goals as goal

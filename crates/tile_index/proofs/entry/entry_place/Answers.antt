@@ -1,4 +1,4 @@
-use Rattle.std.proofs.Common.{◌≡◌, ◌+◌, ◌-◌, ◌*◌, ◌∙◌, ap, rules, ℕ}
+use Rattle.std.proofs.Common.{◌≡◌, ◌+◌, ◌*◌, ◌∙◌, ap, rules}
 use Rattle.std.specs.Prelude.{slice_get}
 use Rattle.map_model.specs.TileRects.{tiles_of, entry_place}
 use Rattle.map_model.proofs.TileLaws.{tile-at_place}
