@@ -3,3 +3,13 @@ pub mod PoiBytes
 pub mod Levels
 pub mod Features
 pub mod Writing
+pub mod TextRoom
+pub mod ShapeRoom
+pub mod DeskRoom
+pub mod Classes
+pub mod TagBytes
+pub mod FirstRing
+pub mod Bodies
+pub mod Counting
+pub mod Wholes
+pub mod Wayside

@@ -1,1 +1,6 @@
 pub mod FirstTile
+pub mod Members
+pub mod Tags
+pub mod Ways
+pub mod Tiles
+pub mod Tables

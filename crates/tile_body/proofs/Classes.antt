@@ -1,0 +1,168 @@
+-- Records one after another: what is put or counted of them by class.
+use Rattle.std.proofs.Common.{◌≡◌, ℕ, zero, suc, ◌+◌, ◌≤◌, ◌<◌, ◌^◌, List, [], ◌∷◌, ◌++◌, length, map, refl, sym, ap}
+use Rattle.std.proofs.Common.{◌∙◌, arith, Option, Some, None, Bool, true, false, drop, length-append, get_or, subst}
+use Rattle.std.specs.Prelude.{filter, flat_map, slice_get, cond, count_by, ◌==◌, if◌then◌else◌, not}
+use Rattle.std.specs.List.{AllByRecursion}
+use Rattle.std.proofs.lemmas.List.{drop_more, drop_all}
+use Rattle.std.proofs.lemmas.Option.{slice_get_within, get_or_from_slice_get, none-some, same_Some}
+use Rattle.mf_base.specs.Buffer.{Buffer, AppendsTo, HasRoom}
+use Rattle.mf_base.specs.declared.kind.EntityKind.{EntityKind}
+use Rattle.mf_base.specs.declared.tile.Interval.{Interval}
+use Rattle.feature_model.specs.Features.{Feature}
+use Rattle.map_model.specs.Members.{is_node_kind, is_poi, is_way}
+use Rattle.map_model.specs.Intervals.{raised_zoom}
+use Rattle.mf_rows.specs.Desks.{units_in}
+use Rattle.mf_rows.specs.Records.{Record, candidate_told}
+use Rattle.mf_rows.specs.RecordUnits.{unit_count, parts_count}
+use Rattle.mf_rows.specs.Shapes.{feature_told}
+use Rattle.tile_body.specs.Members.{IsMember}
+use Rattle.tile_body.specs.Tiles.{features_told, class_bytes, part_of, count_at}
+use Rattle.way_delta.proofs.Writing.{Completes, completes-part, completes-all, completes-front}
+
+-- ---- the record of a place
+
+pub drop-next : {X : Type 0} (xs : List X) (i : ℕ) (x : X) → Some x ≡ slice_get xs i
+    → drop i xs ≡ x ∷ drop (i + 1) xs
+drop-next xs i x is =
+    drop_more xs i x (slice_get_within xs i x (sym is))
+    ∙ ap (λ y. y ∷ drop (i + 1) xs) (get_or_from_slice_get xs i x x (sym is))
+
+all-drop : {X : Type 0} (P : X → Type 0) (xs : List X) (i : ℕ) → AllByRecursion P xs → AllByRecursion P (drop i xs)
+all-drop P xs zero all = all
+all-drop P [] (suc i) all = tt
+all-drop P (x ∷ xs) (suc i) all = all-drop P xs i all.1
+
+-- what holds of all records holds of each
+pub holds-at : {X : Type 0} (P : X → Type 0) (xs : List X) (i : ℕ) (x : X) → Some x ≡ slice_get xs i
+    → AllByRecursion P xs → P x
+holds-at P xs i x is all = (subst (AllByRecursion P) (drop-next xs i x is) (all-drop P xs i all)).0
+
+pub units-at : (records : List Record) (i : ℕ) (r : Record) → Some r ≡ slice_get records i
+    → unit_count r ≤ units_in records
+units-at [] zero r is = absurd (none-some _ (sym is))
+units-at [] (suc i) r is = absurd (none-some _ (sym is))
+units-at (q ∷ records) zero r is = let e = ap unit_count (same_Some r q is) in omega (arith, e)
+units-at (q ∷ records) (suc i) r is = let rest = units-at records i r is in omega (arith, rest)
+
+pub parts-few : (records : List Record) (i : ℕ) (r : Record) → Some r ≡ slice_get records i
+    → units_in records < 2 ^ 32 → parts_count r.parts < 2 ^ 32
+parts-few records i r is few = let units = units-at records i r is in omega (arith, units, few)
+
+-- ---- bytes
+
+module _ (bytes : Feature → List ℕ) (class : Feature → Bool) where
+  class-more : (r : Record) (records : List Record)
+      → class_bytes bytes class (features_told (r ∷ records))
+      ≡ part_of bytes class (feature_told r) ++ class_bytes bytes class (features_told records)
+  unfolding class_bytes
+  class-more r records = by_test (class (feature_told r))
+    where
+      by_test : (b : Bool)
+          → flat_map bytes (cond b (feature_told r ∷ filter class (features_told records))
+          (filter class (features_told records)))
+          ≡ cond b (bytes (feature_told r)) [] ++ flat_map bytes (filter class (features_told records))
+      by_test true = refl
+      by_test false = refl
+
+  pub class-next : (records : List Record) (i : ℕ) (r : Record) → Some r ≡ slice_get records i
+      → class_bytes bytes class (features_told (drop i records))
+      ≡ part_of bytes class (feature_told r) ++ class_bytes bytes class (features_told (drop (i + 1) records))
+  class-next records i r is =
+      ap (λ rs. class_bytes bytes class (features_told rs)) (drop-next records i r is)
+      ∙ class-more r (drop (i + 1) records)
+
+  pub class-end : (records : List Record) (i : ℕ) → length records ≤ i
+      → class_bytes bytes class (features_told (drop i records)) ≡ []
+  unfolding class_bytes
+  class-end records i past = ap (λ rs. class_bytes bytes class (features_told rs)) (drop_all i records past)
+
+  -- what is still to be put completes the class
+  pub PutsClass : (now first : Buffer) (records : List Record) (i : ℕ) → Type 0
+  PutsClass now first records i =
+      Completes now first (class_bytes bytes class (features_told (drop i records)))
+      (class_bytes bytes class (features_told records))
+
+  pub class-none : (first : Buffer) (records : List Record) → PutsClass first first records 0
+  unfolding PutsClass
+  class-none first records = record { bytes = refl; capacity = refl }
+
+  pub class-room : (now first : Buffer) (records : List Record) (i : ℕ) (r : Record) → Some r ≡ slice_get records i
+      → PutsClass now first records i → HasRoom first (length (class_bytes bytes class (features_told records)) + 10)
+      → HasRoom now (length (part_of bytes class (feature_told r)) + 10)
+  unfolding PutsClass
+  class-room now first records i r is h room =
+      completes-front now first (class_bytes bytes class (features_told (drop i records)))
+      (part_of bytes class (feature_told r)) (class_bytes bytes class (features_told (drop (i + 1) records)))
+      (class_bytes bytes class (features_told records)) 10 (class-next records i r is) h room
+
+  pub class-puts : (now next first : Buffer) (records : List Record) (i : ℕ) (r : Record)
+      → Some r ≡ slice_get records i → PutsClass now first records i
+      → AppendsTo now next (part_of bytes class (feature_told r)) → PutsClass next first records (i + 1)
+  unfolding PutsClass
+  class-puts now next first records i r is h put =
+      completes-part now next first (class_bytes bytes class (features_told (drop i records)))
+      (part_of bytes class (feature_told r)) (class_bytes bytes class (features_told (drop (i + 1) records)))
+      (class_bytes bytes class (features_told records)) (class-next records i r is) h put
+
+  pub class-all : (now first : Buffer) (records : List Record) (i : ℕ) → length records ≤ i
+      → PutsClass now first records i → AppendsTo first now (class_bytes bytes class (features_told records))
+  unfolding PutsClass
+  class-all now first records i past h =
+      completes-all now first (class_bytes bytes class (features_told (drop i records)))
+      (class_bytes bytes class (features_told records)) (class-end records i past) h
+
+  -- what is measured and what is still to be measured is all
+  pub MeasuresClass : (size : ℕ) (records : List Record) (i : ℕ) → Type 0
+  MeasuresClass size records i =
+      size + length (class_bytes bytes class (features_told (drop i records)))
+      ≡ length (class_bytes bytes class (features_told records))
+
+  pub measures-none : (records : List Record) → MeasuresClass 0 records 0
+  unfolding MeasuresClass
+  measures-none records =
+      let e : length (class_bytes bytes class (features_told (drop 0 records)))
+      ≡ length (class_bytes bytes class (features_told records)) = refl in
+      omega (arith, e)
+
+  pub measures-more : (size part : ℕ) (records : List Record) (i : ℕ) (r : Record) → Some r ≡ slice_get records i
+      → MeasuresClass size records i → part ≡ length (part_of bytes class (feature_told r))
+      → MeasuresClass (size + part) records (i + 1)
+  unfolding MeasuresClass
+  measures-more size part records i r is h e =
+      let next = ap length (class-next records i r is) in
+      let sum = length-append (part_of bytes class (feature_told r))
+      (class_bytes bytes class (features_told (drop (i + 1) records))) in
+      omega (arith, h, e, next, sum)
+
+  pub measures-fit : (size part : ℕ) (records : List Record) (i : ℕ) (r : Record) → Some r ≡ slice_get records i
+      → MeasuresClass size records i → part ≡ length (part_of bytes class (feature_told r))
+      → size + part ≤ length (class_bytes bytes class (features_told records))
+  unfolding MeasuresClass
+  measures-fit size part records i r is h e =
+      let next = ap length (class-next records i r is) in
+      let sum = length-append (part_of bytes class (feature_told r))
+      (class_bytes bytes class (features_told (drop (i + 1) records))) in
+      omega (arith, h, e, next, sum)
+
+  pub measures-all : (size : ℕ) (records : List Record) (i : ℕ) → length records ≤ i → MeasuresClass size records i
+      → size ≡ length (class_bytes bytes class (features_told records))
+  unfolding MeasuresClass
+  measures-all size records i past h = let none = ap length (class-end records i past) in omega (arith, h, none)
+
+-- ---- one record by its class
+
+pub part-yes : (bytes : Feature → List ℕ) (class : Feature → Bool) (f : Feature) → class f ≡ true
+    → part_of bytes class f ≡ bytes f
+part-yes bytes class f is = rw is refl
+
+pub part-no : (bytes : Feature → List ℕ) (class : Feature → Bool) (f : Feature) → class f ≡ false
+    → part_of bytes class f ≡ []
+part-no bytes class f is = rw is refl
+
+pub poi-is : (r : Record) (b : Bool) → is_node_kind r.head.kind ≡ b → is_poi (feature_told r) ≡ b
+unfolding feature_told candidate_told
+poi-is r b is = is
+
+pub way-is : (r : Record) (b : Bool) → is_node_kind r.head.kind ≡ b → is_way (feature_told r) ≡ not b
+unfolding feature_told candidate_told
+way-is r b is = ap not is
