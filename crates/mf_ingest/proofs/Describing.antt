@@ -20,7 +20,8 @@ use Rattle.mf_rows.specs.declared.head.Head.{Head}
 use Rattle.mf_rows.specs.FirstUnits.{IsShort, IsHead}
 use Rattle.mf_rows.specs.Records.{LiesIn, texts_told, description_told}
 use Rattle.mf_ingest.specs.declared.front.Described.{Described}
-use Rattle.mf_ingest.specs.Fronts.{front_told, IsFront, head_told, IsSpan, tag_texts, AreEntriesOf, AreTexts}
+use Rattle.mf_rows.specs.Whole.{AreTexts}
+use Rattle.mf_ingest.specs.Fronts.{front_told, IsFront, head_told, IsSpan, tag_texts, AreEntriesOf}
 use Rattle.mf_ingest.proofs.KeptTexts.{HasItsText, choice-texts}
 use Rattle.mf_ingest.proofs.TextSlots.{front-told}
 use Rattle.mf_ingest.proofs.TextSizes.{IsSound, kept-present, texts-are}
@@ -155,11 +156,13 @@ module _ (mapping : Mapping) (e : Entity) where
               ∙ ap (λ k. head_told k (id_of e) (height_of k tags) c) kind_is
               ∙ ap (λ t. head_told (kind_of e) (id_of e) (height_of (kind_of e) t) c) tags_are
 
-      pub front-is : IsHead d.head → AllByRecursion (IsSpan (length d.texts.block.now)) d.texts.spans.items → IsFront d
-      front-is head_is spans = record {
+      pub front-is : IsHead d.head → length d.texts.spans.items ≤ 18
+          → AllByRecursion (IsSpan (length d.texts.block.now)) d.texts.spans.items → IsFront d
+      front-is head_is few spans = record {
         head_is = head_is;
         no_number = ap (λ (h : Head). h.number) head;
         no_weight = ap (λ (h : Head). h.weight) head;
+        few = few;
         lies = all-weaker (IsSpan (length d.texts.block.now)) (LiesIn (length d.texts.block.now)) d.texts.spans.items
             (λ s h. h.0) spans;
         short = all-weaker (IsSpan (length d.texts.block.now)) IsShort d.texts.spans.items (λ s h. h.2) spans;

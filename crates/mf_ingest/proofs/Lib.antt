@@ -3,5 +3,4 @@ pub mod TextSlots
 pub mod FrontIs
 pub mod Spans
 pub mod TextSizes
-pub mod Whole
 pub mod Describing

@@ -20,7 +20,8 @@ use Rattle.mf_rows.specs.RecordUnits.{text_size, tag_sizes, kept_size, is_size}
 use Rattle.mf_rows.specs.declared.head.Head.{Head}
 use Rattle.mf_rows.specs.declared.head.TextSlot.{TextSlot}
 use Rattle.mf_rows.specs.declared.head.TextSlot.TheVariants.{Name, House, Reference, Tag}
-use Rattle.mf_ingest.specs.Fronts.{slot_text, kept_text, kept_texts, tag_texts, some_sizes, sizes_of, AreTexts}
+use Rattle.mf_rows.specs.Whole.{with_text, sizes_of, AreTexts}
+use Rattle.mf_ingest.specs.Fronts.{slot_text, kept_text, kept_texts, tag_texts}
 use Rattle.mf_ingest.proofs.KeptTexts.{HasItsText}
 use Rattle.mf_ingest.proofs.TextSlots.{name-told, house-told, reference-told}
 
@@ -31,7 +32,7 @@ abbrev size : Option Text → ℕ
 size text = length (unwrap_or text [])
 
 slot-sizes : (slot : TextSlot) (text : Option Text) (rest : List (TextSlot × ℕ)) → IfSome text IsPresent
-    → sizes_of (slot_text slot text) ++ some_sizes rest ≡ some_sizes ((slot, size text) ∷ rest)
+    → sizes_of (slot_text slot text) ++ with_text rest ≡ with_text ((slot, size text) ∷ rest)
 slot-sizes slot None rest present = refl
 slot-sizes slot (Some t) rest present = rw (ne_eqb (length t) 0 (λ e. omega (arith, present.0, e))) refl
 
@@ -97,7 +98,7 @@ module _ (entries : List Entry) (tags : Tags) where
   IsSound k = HasItsText entries tags k × IfSome (text_kept k.value) IsPresent
 
   kept-sizes : (i : ℕ) (kept : List Kept) → AllByRecursion IsSound kept
-      → sizes_of (kept_texts entries tags i (map kept_told kept)) ≡ some_sizes (tag_sizes i (map kept_told kept))
+      → sizes_of (kept_texts entries tags i (map kept_told kept)) ≡ with_text (tag_sizes i (map kept_told kept))
   kept-sizes i [] all = refl
   kept-sizes i (k ∷ kept) all =
       let first : Option Text = kept_text entries tags (kept_told k) in
@@ -106,7 +107,7 @@ module _ (entries : List Entry) (tags : Tags) where
       map-append _ (slot_text (Tag i) first) (kept_texts entries tags (i + 1) (map kept_told kept))
       ∙ ap (λ s. sizes_of (slot_text (Tag i) first) ++ s) (kept-sizes (i + 1) kept all.1)
       ∙ slot-sizes (Tag i) first rest (subst (λ o. IfSome o IsPresent) (sym all.0.0) all.0.1)
-      ∙ ap (λ n. some_sizes ((Tag i, n) ∷ rest)) sized
+      ∙ ap (λ n. with_text ((Tag i, n) ∷ rest)) sized
 
   kept-fit : (kept : List Kept) → AllByRecursion IsSound kept
       → list_all (λ (k : KeptRead). is_size k.value) (map kept_told kept) ≡ true
@@ -150,15 +151,15 @@ module _ (entries : List Entry) (tags : Tags) where
         let rest : List (TextSlot × ℕ) = tag_sizes 0 (map kept_told kept) in
         let behind : List (TextSlot × ℕ) = (Reference, size reference) ∷ rest in
         record {
-          slots = sizes-all names houses references (kept_texts entries tags 0 (map kept_told kept))
+          sizes = sizes-all names houses references (kept_texts entries tags 0 (map kept_told kept))
               ∙ ap (λ s. sizes_of names ++ (sizes_of houses ++ (sizes_of references ++ s))) (kept-sizes 0 kept all)
               ∙ ap (λ s. sizes_of names ++ (sizes_of houses ++ s))
               (slot-sizes Reference reference rest (reference-present kind tags))
               ∙ ap (λ s. sizes_of names ++ s)
               (slot-sizes House house behind (text_of-present (codes "addr:housenumber") tags))
               ∙ slot-sizes Name name ((House, size house) ∷ behind) (text_of-present (codes "name") tags)
-              ∙ same (λ n m r t. some_sizes ((Name, n) ∷ (House, m) ∷ (Reference, r) ∷ tag_sizes 0 t));
-          fitting = sym (same (λ n m r t. nat_le n 1020 && nat_le m 1020 && nat_le r 1020
+              ∙ same (λ n m r t. with_text ((Name, n) ∷ (House, m) ∷ (Reference, r) ∷ tag_sizes 0 t));
+          short = sym (same (λ n m r t. nat_le n 1020 && nat_le m 1020 && nat_le r 1020
               && list_all (λ (k : KeptRead). is_size k.value) t))
               ∙ rw (
                 fits name (text_of-present (codes "name") tags),

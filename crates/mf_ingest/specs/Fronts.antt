@@ -1,6 +1,6 @@
 -- Head and texts of a candidate, in the words of the definitions. This project's own.
 use Rattle.std.specs.Prelude.{◌≡◌, ℕ, ◌+◌, ◌<◌, ◌≤◌, ℤ, List, [], ◌∷◌, ◌++◌, length, codes, slice_get}
-use Rattle.std.specs.Prelude.{Option, Some, None, option_and_then, map, filter, not, nat_eq, true}
+use Rattle.std.specs.Prelude.{Option, Some, None, option_and_then}
 use Rattle.std.specs.List.{AllByRecursion}
 use Rattle.mf_base.specs.Texts.{Text}
 use Rattle.mf_base.specs.Tags.{Tags, text_of}
@@ -11,8 +11,7 @@ use Rattle.mf_base.specs.declared.kept.KeptValue.TheVariants as read
 use Rattle.feature_model.specs.Mapping.{Entry}
 use Rattle.feature_model.specs.Descriptions.{Description, reference_of}
 use Rattle.mf_rows.specs.Records.{LiesIn, texts_told, description_told}
-use Rattle.mf_rows.specs.Heads.{HeadTold}
-use Rattle.mf_rows.specs.RecordUnits.{lengths_of, slot_sizes, are_sizes}
+use Rattle.mf_rows.specs.Whole.{AreTexts}
 use Rattle.mf_rows.specs.FirstUnits.{IsShort, IsHead}
 use Rattle.mf_rows.specs.declared.head.Head.{Head}
 use Rattle.mf_rows.specs.declared.head.TextSlot.{TextSlot}
@@ -27,29 +26,13 @@ use Rattle.mf_ingest.specs.declared.front.Described.{Described}
 abbrev pub front_told : Described → Description
 front_told d = description_told d.head (texts_told d.texts.block.now d.texts.spans.items)
 
--- sizes that are not 0
-abbrev pub some_sizes : List (TextSlot × ℕ) → List (TextSlot × ℕ)
-some_sizes sizes = filter (λ (s : TextSlot × ℕ). not (nat_eq s.1 0)) sizes
-
--- slots with the sizes of their texts
-abbrev pub sizes_of : List (TextSlot × Text) → List (TextSlot × ℕ)
-sizes_of texts = map (λ (t : TextSlot × Text). (t.0, length t.1)) texts
-
--- a head with the lengths of these texts
-abbrev pub with_lengths : Head → List (TextSlot × Text) → HeadTold
-with_lengths h texts = record { head = h; texts = lengths_of texts }
-
--- The texts are those that the head tells, in the order of their slots, and each has a size that a text may have.
-pub record AreTexts (h : Head) (texts : List (TextSlot × Text)) : Type 0 where
-  pub slots : sizes_of texts ≡ some_sizes (slot_sizes (with_lengths h texts))
-  pub fitting : are_sizes (with_lengths h texts) ≡ true
-
 -- What holds of head and texts that are handed on: number and weight are 0, each text lies in the block, and is short,
 -- and the head tells just these texts.
 pub record IsFront (d : Described) : Type 0 where
   pub head_is : IsHead d.head
   pub no_number : d.head.number ≡ 0
   pub no_weight : d.head.weight ≡ 0
+  pub few : length d.texts.spans.items ≤ 18
   pub lies : AllByRecursion (LiesIn (length d.texts.block.now)) d.texts.spans.items
   pub short : AllByRecursion IsShort d.texts.spans.items
   pub texts_are : AreTexts d.head (texts_told d.texts.block.now d.texts.spans.items)

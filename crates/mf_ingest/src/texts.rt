@@ -34,6 +34,7 @@ pub(crate) fn texts_of<'a>(
     ensures texts { texts_told block.now result.spans.items
         ≡ tag_texts (entries_for mapping.now kind) kind (all_tags tags.entry) kept.now }
     ensures spans { AllByRecursion (IsSpan (length block.now)) result.spans.items }
+    ensures few { length result.spans.items ≤ 18 }
     ensures block { result.block.now ≡ block.now }
 {
     let mut spans = ArrayVec::new();
@@ -78,6 +79,7 @@ fn put_kept(
         ≡ texts_told (block_of tags.entry) spans.old.items
         ++ kept_texts (entries_of mapping.now list) (all_tags tags.entry) 0 kept.now }
     ensures spans { AllByRecursion (IsSpan (length (block_of tags.entry))) spans.new.items }
+    ensures most { array_vec_len spans.new ≤ 18 }
 {
     for i in 0..kept.len() {
         put_value(spans, mapping, list, i as u8, kept[i], tags);

@@ -55,6 +55,6 @@ returns-clause-front c =
     front-is m e chosen is (record { head = c.head_of-head.result; texts = c.texts_of-texts.result })
     c.kind_of-kind.result c.id_of.result c.height_of.result (all_tags c.tags_of-tags.result) c.deref.result.now
     c.kind_of-kind.ensures c.tags_of-tags.ensures.all (search rules) c.head_of-head.ensures.told texts
-    c.head_of-head.ensures.is
+    c.head_of-head.ensures.is c.texts_of-texts.ensures.few
     (subst (λ b. AllByRecursion (IsSpan (length b)) c.texts_of-texts.result.spans.items)
     (sym c.texts_of-texts.ensures.block) c.texts_of-texts.ensures.spans)
