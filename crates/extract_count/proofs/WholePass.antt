@@ -11,8 +11,8 @@ use Rattle.osm_model.specs.Frames.{LeadsTo, PassesOver}
 use Rattle.osm_model.specs.Entities.{Entity}
 use Rattle.osm_model.specs.Input.{content_entities, content_box}
 use Rattle.osm_model.specs.Input.{input_fault}
-use Rattle.pbf_frame.specs.declared.blob_pass.PassFault.{PassFault}
-use Rattle.pbf_frame.specs.declared.blob_pass.PassFault.TheVariants as pass_fault
+use Rattle.extract_count.specs.declared.pass.PassFault.{PassFault}
+use Rattle.extract_count.specs.declared.pass.PassFault.TheVariants as pass_fault
 use Rattle.pbf_frame.specs.declared.frame.Frame as given
 use Rattle.pbf_frame.specs.declared.frame_fault.NextFault.{NextFault}
 use Rattle.pbf_frame.specs.declared.frame_fault.NextFault.TheVariants as next_fault

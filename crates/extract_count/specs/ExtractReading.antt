@@ -11,8 +11,8 @@ use Rattle.osm_model.specs.Frames.{Content, known_at}
 use Rattle.osm_model.specs.Entities.{Entity}
 use Rattle.osm_model.specs.Input.{content_fault, content_entities, content_box, input_fault, input_entities, input_box}
 use Rattle.osm_model.specs.Outcome.{Outcome, input_outcome, outcome_behind}
-use Rattle.pbf_frame.specs.declared.blob_pass.PassFault.{PassFault}
-use Rattle.pbf_frame.specs.declared.blob_pass.PassFault.TheVariants as pass_fault
+use Rattle.extract_count.specs.declared.pass.PassFault.{PassFault}
+use Rattle.extract_count.specs.declared.pass.PassFault.TheVariants as pass_fault
 use Rattle.pbf_frame.specs.declared.frame_fault.NextFault.{NextFault}
 use Rattle.pbf_frame.specs.declared.frame_fault.NextFault.TheVariants as next_fault
 use Rattle.pbf_frame.specs.FrameReading.{HasTaken}

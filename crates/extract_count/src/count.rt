@@ -7,12 +7,11 @@ ghost use Rattle.extract_count.specs.ExtractReading.{TellsExtract, TellsBytes};
 ghost use Rattle.extract_count.specs.Tallying.{CountedAs};
 
 use crate::counts::Counts;
-use crate::pass::read_extract;
+use crate::pass::{PassFault, read_extract};
 use crate::tally::Tally;
 use mf_base::place::Rect;
 use mf_edge::{Block, Source, Stream};
 use pbf_block::strings::Strings;
-use pbf_frame::blob_pass::PassFault;
 
 /// How many entities an extract has, and the box that is known of it, in microdegrees.
 #[derive(Clone, Copy, Debug, PartialEq, Eq)]

@@ -7,10 +7,21 @@ ghost use Rattle.extract_count.specs.ExtractReading.{TellsExtract, TellsBytes, t
 
 use mf_edge::{Block, Source, Stream};
 use osm_model::faults::{InputCode, InputFault};
-use pbf_frame::blob_pass::PassFault;
 use pbf_frame::frame::BlobKind;
 use pbf_frame::frame_fault::NextFault;
 use pbf_frame::frames::Frames;
+use thiserror::Error;
+
+/// Why a pass ended before the end of the input.
+#[derive(Clone, Copy, Debug, PartialEq, Eq, Error)]
+pub enum PassFault {
+    /// The source failed.
+    #[error("the input could not be read")]
+    Read,
+    /// The first fault of the input.
+    #[error("{0}")]
+    Input(InputFault),
+}
 
 /// Reads what the blobs of an extract hold, one blob behind another.
 pub trait ExtractReader {

@@ -22,4 +22,3 @@ pub mod BlobFront
 pub mod TakenSteps
 pub mod NextBlob
 pub mod NextExact
-pub mod BlobPass

@@ -5,4 +5,3 @@ pub mod Samples
 pub mod BlobSteps
 pub mod FrameReading
 pub mod BlobReading
-pub mod BlobPass

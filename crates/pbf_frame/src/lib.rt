@@ -8,12 +8,11 @@
 //!
 //! The blobs of any input are given by `frames`: a `frame` at a time, or a `frame_fault`. It reads one blob after
 //! another by `blob_read`, with `blob_head` and `blob_raw` for their two messages, whose fields are found by
-//! `pbf_wire::lookup` and by `blob_fields`. `blob_pass` goes over all of them, and hands each to a reader.
+//! `pbf_wire::lookup` and by `blob_fields`.
 #![tactic(auto)]
 
 mod blob_fields;
 mod blob_head;
-pub mod blob_pass;
 mod blob_raw;
 mod blob_read;
 mod blobs;

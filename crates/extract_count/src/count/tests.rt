@@ -4,11 +4,11 @@ ghost use Rattle.std.specs.Prelude.{◌<◌};
 
 use super::{Counted, count_extract};
 use crate::counts::Counts;
+use crate::pass::PassFault;
 use mf_base::place::Rect;
 use mf_edge::{Block, MemSource, ReadSource, Source, Stream, SureSource};
 use osm_model::faults::{BlockFault, EntityFault, FrameFault, InputCode, InputFault};
 use pbf_block::strings::Strings;
-use pbf_frame::blob_pass::PassFault;
 use std::alloc::{AllocError, Global};
 use std::test::Fail;
 

@@ -4,7 +4,7 @@ use Rattle.mf_base.proofs.StepLaws.{err_is_no_ok}
 use Rattle.mf_edge.specs.Stream.{at}
 use Rattle.mf_edge.proofs.Walking.{walk-then}
 use Rattle.osm_model.specs.declared.limits.TheConstants.{FRAME_LIMIT}
-use Rattle.pbf_frame.specs.declared.blob_pass.PassFault.TheVariants as pass_fault
+use Rattle.extract_count.specs.declared.pass.PassFault.TheVariants as pass_fault
 use Rattle.pbf_frame.specs.FrameReading.{content_shown}
 use Rattle.extract_count.specs.ExtractReading.{ReadsBlob, TellsExtract}
 use Rattle.extract_count.proofs.WholePass.{walk-none, pass-first, pass-blob, pass-fault, pass-end, pass-none, told-exact}
