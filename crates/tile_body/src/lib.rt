@@ -14,3 +14,5 @@ mod poi;
 pub mod rows;
 mod table;
 mod tags;
+mod texts;
+mod way;
