@@ -1,8 +1,8 @@
 -- What calls on other parts leave as it was.
 use Rattle.std.proofs.Common.{◌≡◌, ◌≢◌, ℕ, true, List, Some, None, refl, sym, rules, subst, ◌∷◌, ◌∙◌, ap}
-use Rattle.mf_edge.specs.Spill.{SpillState, SameStore, SameParts, KeepsOthers}
+use Rattle.mf_edge.specs.Spill.{SpillState, SameStore, SameParts, KeepsOthers, IsMade}
 use Rattle.mf_rows.specs.RowKinds.{Kind}
-use Rattle.spill_parts.specs.Parts.{Part, Piece, IsThere, Reading, PageBytes, IsReading, IsBegun, GivesNext}
+use Rattle.spill_parts.specs.Parts.{Part, Piece, IsThere, Reading, PageBytes, IsReading, GivesNext}
 
 some_is_none : {n : ℕ} → Some n ≡ None → ⊥
 some_is_none e = search (e, rules)
@@ -25,13 +25,8 @@ reading_kept q apart keeps tells is = record {
 }
 
 -- a part that is there has another number than one that was made
-pub apart_from_begun : {K : Type 0} {kind : Kind K} {p : Piece} {w : Part K} {s s' : SpillState} → IsBegun kind w s s'
-    → IsThere p s → p.part ≢ w.part
-apart_from_begun {s = s} begun is same = some_is_none (sym is.size ∙ ap s.size same ∙ begun.fresh)
-
-pub begun_kept : {K : Type 0} {kind : Kind K} {p : Piece} {w : Part K} {s s' : SpillState} → IsBegun kind w s s'
-    → SameStore s s' → IsThere p s → IsThere p s'
-begun_kept {w = w} begun same is = there_kept w.part (apart_from_begun begun is) begun.others same.tells is
+pub apart_from_made : {p : Piece} {part : ℕ} {s s' : SpillState} → IsMade part s s' → IsThere p s → p.part ≢ part
+apart_from_made {s = s} made is same = some_is_none (sym is.size ∙ ap s.size same ∙ made.fresh)
 
 -- a reader is as it was where only faults were counted
 pub reading_same : {K : Type 0} {kind : Kind K} {r : Reading K} {page : PageBytes} {s s' : SpillState}

@@ -3,6 +3,7 @@
 
 mod byte_part;
 mod handed;
+mod lookup;
 mod merge;
 mod part;
 mod reader;
@@ -12,7 +13,8 @@ mod writer;
 
 pub use byte_part::BytePart;
 pub use handed::{Ingested, Shapes};
-pub use merge::{JoinOf, Keyed, join};
+pub use lookup::{Keyed, Lookup};
+pub use merge::{JoinOf, join};
 pub use part::{Part, forget_part, order_part};
 pub use reader::{Page, Reader};
 pub use told::Told;

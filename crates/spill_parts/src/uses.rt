@@ -27,7 +27,7 @@ pub fn copy<K: RowKind, P: Spill, L: Ledger>(
     ensures held { IfOk result (λ to. IsHeld K.kind to (P.state spill.new)) }
     ensures same_faults { OnOk result ((P.state spill.new).faults ≡ (P.state spill.old).faults) }
     ensures failed { OnErr result (CountsOne (P.state spill.old).faults (P.state spill.new).faults) }
-    ensures steps { OnOk result (steps.new ≤ steps.old + K.kind.width * length from.now.rows) }
+    ensures steps { steps.new ≤ steps.old + K.kind.width * length from.now.rows }
     ensures added { IfOk result (λ to. IsAdded to.part (P.state spill.old) (P.state spill.new)) }
     ensures same { SameStore (P.state spill.old) (P.state spill.new) }
 {
@@ -49,10 +49,10 @@ fn copy_rest<K: RowKind, P: Spill, L: Ledger>(
     requires apart { to.old.part ≢ reader.old.source.part }
     requires reading { IsReading K.kind reader.old page.old (P.state spill.old) }
     requires held { IsHeld K.kind to.old (P.state spill.old) }
+    requires within { K.kind.width * reader.old.loaded ≤ K.kind.width * length reader.old.source.rows }
     ensures rows { OnOk result ((P.state spill.old).tells ≡ true → to.new.rows ≡ to.old.rows ++ reader.old.left) }
     ensures held { OnOk result (IsHeld K.kind to.new (P.state spill.new)) }
-    ensures steps { OnOk result
-        (steps.new + K.kind.width * reader.old.loaded ≤ steps.old + K.kind.width * length reader.old.source.rows) }
+    ensures steps { steps.new + K.kind.width * reader.old.loaded ≤ steps.old + K.kind.width * length reader.old.source.rows }
     ensures same_faults { OnOk result ((P.state spill.new).faults ≡ (P.state spill.old).faults) }
     ensures failed { OnErr result (CountsOne (P.state spill.old).faults (P.state spill.new).faults) }
     ensures part { to.new.part ≡ to.old.part }

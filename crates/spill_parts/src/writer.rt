@@ -1,9 +1,9 @@
 //! Who writes a part.
 
-ghost use Rattle.std.specs.Prelude.{◌≡◌, ◌+◌, ◌*◌, ◌<◌, ◌≤◌, true, length, IfOk, OnOk, OnErr};
+ghost use Rattle.std.specs.Prelude.{◌≡◌, ◌≢◌, ◌+◌, ◌*◌, ◌<◌, ◌≤◌, true, length, IfOk, OnOk, OnErr};
 ghost use Rattle.mf_edge.specs.Device.{CountsOne};
 ghost use Rattle.mf_edge.specs.Spill.{SameStore, SameParts, TouchesOnly, most_parts, part_limit};
-ghost use Rattle.spill_parts.specs.Parts.{IsHeld, IsBegun, IsPut, ArePut};
+ghost use Rattle.spill_parts.specs.Parts.{Piece, IsThere, IsHeld, IsBegun, IsPut, ArePut};
 
 use crate::part::Part;
 use crate::reader::Page;
@@ -31,6 +31,8 @@ impl<K: RowKind> Writer<K> {
         requires started { (P.state spill.old).is_started ≡ true }
         requires few { (P.state spill.old).count < most_parts }
         ensures made { IfOk result (λ w. IsBegun K.kind w (P.state spill.old) (P.state spill.new)) }
+        ensures kept { OnOk result ((p : Piece) → IsThere p (P.state spill.old) → IsThere p (P.state spill.new)) }
+        ensures apart { IfOk result (λ w. (p : Piece) → IsThere p (P.state spill.old) → p.part ≢ w.part) }
         ensures same_faults { OnOk result ((P.state spill.new).faults ≡ (P.state spill.old).faults) }
 
         ensures none { OnErr result (SameParts (P.state spill.old) (P.state spill.new)) }

@@ -1,4 +1,4 @@
-use Rattle.std.proofs.Common.{◌≡◌, ◌+◌, ◌*◌, true, ◌++◌, length}
+use Rattle.std.proofs.Common.{◌≡◌, ◌+◌, ◌*◌, ◌≤◌, true, ◌++◌, length}
 use Rattle.mf_edge.specs.Spill.{TouchesOnly}
 use Rattle.spill_parts.specs.Parts.{IsHeld, IsReading}
 use Rattle.spill_parts.proofs.uses.copy_rest.Given as goal
@@ -13,6 +13,7 @@ invariant-loop-row g l = record {
   source : l.reader.source ≡ l.fn.reader.source;
   rows : (g.P.Spill.state l.fn.spill).tells ≡ true → l.to.rows ++ l.reader.left ≡ l.fn.to.rows ++ l.fn.reader.left;
   steps : l.steps + g.K.RowKind.kind.width * l.fn.reader.loaded ≡ l.fn.steps + g.K.RowKind.kind.width * l.reader.loaded;
+  within : g.K.RowKind.kind.width * l.reader.loaded ≤ g.K.RowKind.kind.width * length l.reader.source.rows;
 }
 
 abbrev pub decreases-loop-row : goal.decreases-loop-row

@@ -2,7 +2,7 @@ use Rattle.std.proofs.Common.{◌≡◌, ◌+◌, ◌*◌, ◌≤◌, true, leng
 use Rattle.mf_edge.specs.Spill.{SameParts}
 use Rattle.spill_parts.specs.Parts.{IsReading}
 use Rattle.spill_parts.specs.Join.{rest_of, from_key}
-use Rattle.spill_parts.proofs.merge.pass_below.Given as goal
+use Rattle.spill_parts.proofs.lookup.pass_below.Given as goal
 
 abbrev pub invariant-loop-held : goal.invariant-loop-held
 invariant-loop-held g l = record {
