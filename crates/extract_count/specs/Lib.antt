@@ -1,4 +1,0 @@
-pub mod ExtractReading
-pub mod BlockCount
-pub mod Counting
-pub mod Tallying

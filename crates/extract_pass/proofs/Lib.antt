@@ -1,0 +1,9 @@
+pub mod ReadBlobs
+pub mod BlockPass
+pub mod BlockGiven
+pub mod BehindBlobs
+pub mod WholePass
+pub mod CountFits
+pub mod CountNext
+pub mod CountAdds
+pub mod Counted

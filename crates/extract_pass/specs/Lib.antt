@@ -1,0 +1,4 @@
+pub mod BlobReading
+pub mod Behind
+pub mod EntityPass
+pub mod Counting
