@@ -1,11 +1,14 @@
 //! The data blocks of a way: the places of its rings as steps, under single or double delta.
 //!
-//! `steps` has how far places are from one another, `measure` the bytes of all coordinates under both delta kinds,
-//! `counts` those of the numbers of rings and places, and `put` writes the blocks. What the bytes are stands in
-//! `map_model`, which feature a record is in `mf_rows`.
+//! `features` tells which records have blocks, `steps` how far places are from one another, `measure` the bytes of all
+//! coordinates under both delta kinds, `counts` those of the numbers of rings and places, and `put` writes the blocks.
+//! What the bytes are stands in `map_model`, which feature a record is in `mf_rows`.
 #![tactic(auto)]
 
 pub mod counts;
+pub mod features;
 pub mod measure;
 pub mod put;
 pub mod steps;
+#[cfg(test)]
+mod tests;
