@@ -30,7 +30,8 @@ use Rattle.tile_body.specs.Ways.{IsDrawn}
 -- a buffer once a part was put
 pub size-after : (first next : Buffer) (part : List ℕ) → AppendsTo first next part
     → (length next.bytes ≡ length first.bytes + length part) × (next.capacity ≡ first.capacity)
-size-after first next part put = (ap (λ b. length b.bytes) put ∙ length-append first.bytes part, ap (λ b. b.capacity) put)
+size-after first next part put =
+    (ap (λ b. length b.bytes) put ∙ length-append first.bytes part, ap (λ b. b.capacity) put)
 
 -- ---- POIs
 

@@ -37,17 +37,6 @@ pub holds-at : {X : Type 0} (P : X → Type 0) (xs : List X) (i : ℕ) (x : X) �
     → AllByRecursion P xs → P x
 holds-at P xs i x is all = (subst (AllByRecursion P) (drop-next xs i x is) (all-drop P xs i all)).0
 
-pub units-at : (records : List Record) (i : ℕ) (r : Record) → Some r ≡ slice_get records i
-    → unit_count r ≤ units_in records
-units-at [] zero r is = absurd (none-some _ (sym is))
-units-at [] (suc i) r is = absurd (none-some _ (sym is))
-units-at (q ∷ records) zero r is = let e = ap unit_count (same_Some r q is) in omega (arith, e)
-units-at (q ∷ records) (suc i) r is = let rest = units-at records i r is in omega (arith, rest)
-
-pub parts-few : (records : List Record) (i : ℕ) (r : Record) → Some r ≡ slice_get records i
-    → units_in records < 2 ^ 32 → parts_count r.parts < 2 ^ 32
-parts-few records i r is few = let units = units-at records i r is in omega (arith, units, few)
-
 -- ---- bytes
 
 module _ (bytes : Feature → List ℕ) (class : Feature → Bool) where

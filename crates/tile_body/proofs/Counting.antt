@@ -1,6 +1,8 @@
 -- The zoom table, while members are counted and while it is put.
-use Rattle.std.proofs.Common.{◌≡◌, ℕ, zero, suc, ◌+◌, ◌-◌, ◌≤◌, ◌<◌, ◌^◌, List, [], ◌∷◌, ◌++◌, length, map, refl, sym, ap}
-use Rattle.std.proofs.Common.{◌∙◌, arith, Some, Bool, true, false, drop, length-append, get_or, inl, inr, append_assoc, subst}
+use Rattle.std.proofs.Common.{◌≡◌, ℕ, zero, suc, ◌+◌, ◌-◌, ◌≤◌, ◌<◌, ◌^◌, List, [], ◌∷◌, ◌++◌, length, map, refl, sym}
+use Rattle.std.proofs.Common.{ap}
+use Rattle.std.proofs.Common.{◌∙◌, arith, Some, Bool, true, false, drop, length-append, get_or, inl, inr}
+use Rattle.std.proofs.Common.{append_assoc, subst}
 use Rattle.std.specs.Prelude.{filter, flat_map, slice_get, cond, count_by, ◌==◌, if◌then◌else◌, slice_set}
 use Rattle.std.specs.List.{AllByRecursion, range_with_len}
 use Rattle.std.proofs.lemmas.Bool.{cases_eq, eq-eqb, ne_eqb}
@@ -111,9 +113,11 @@ counts-more class interval records i r counts next is low range top e h =
     within = let wide = h.wide in omega (arith, wide, low, range, top)
 
     by_class : (b : Bool) → class (feature_told r) ≡ b
-        → CountsSoFar class interval records (i + 1) (cond b (one_more counts (raised_zoom interval (feature_told r).zoom)) counts)
+        → CountsSoFar class interval records (i + 1)
+        (cond b (one_more counts (raised_zoom interval (feature_told r).zoom)) counts)
     by_class true is_of = record {
-      wide = length-set counts (raised_zoom interval (feature_told r).zoom) (get_or counts (raised_zoom interval (feature_told r).zoom) 0 + 1) ∙ h.wide;
+      wide = length-set counts (raised_zoom interval (feature_told r).zoom)
+          (get_or counts (raised_zoom interval (feature_told r).zoom) 0 + 1) ∙ h.wide;
       sum = λ z small.
           let sum = h.sum z small in
           let here = one_more-at counts (raised_zoom interval (feature_told r).zoom) z within in

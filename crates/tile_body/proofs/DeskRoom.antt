@@ -1,5 +1,6 @@
 -- The room that a tile takes: at most 16 bytes for each unit of a desk, and 246, so that its output holds it.
-use Rattle.std.proofs.Common.{◌≡◌, ℕ, zero, suc, ◌+◌, ◌-◌, ◌*◌, ◌/◌, ◌^◌, ◌≤◌, ◌<◌, List, [], ◌∷◌, ◌++◌, length, map, subst}
+use Rattle.std.proofs.Common.{◌≡◌, ℕ, zero, suc, ◌+◌, ◌-◌, ◌*◌, ◌/◌, ◌^◌, ◌≤◌, ◌<◌, List, [], ◌∷◌, ◌++◌, length, map}
+use Rattle.std.proofs.Common.{subst}
 use Rattle.std.proofs.Common.{refl, sym, ap, ◌∙◌, arith, length-append, Option, Some, None, Bool, true, false}
 use Rattle.std.specs.Prelude.{ℤ, nat_abs, cond, not, filter, flat_map, count_by, IfSome, IsTrue, ◌==◌}
 use Rattle.std.specs.List.{AllByRecursion, range_with_len}
@@ -176,7 +177,8 @@ count-le p q fs =
     let few = filter-le q fs in
     omega (arith, all, most, few)
 
-table-room : (g : ℕ → List ℕ) (a n : ℕ) → ((z : ℕ) → length (g z) ≤ 8) → length (flat_map g (range_with_len a n)) ≤ 8 * n
+table-room : (g : ℕ → List ℕ) (a n : ℕ) → ((z : ℕ) → length (g z) ≤ 8)
+    → length (flat_map g (range_with_len a n)) ≤ 8 * n
 table-room g a zero each = omega arith
 table-room g a (suc n) each =
     let here = each a in
@@ -230,7 +232,8 @@ module _ (tile : TilePlace) (at : IsPlaceOf32Bits (tile_corner tile)) where
 
 flat-room : (tile : TilePlace) (records : List Record) → IsTile tile → AllByRecursion IsMember records
     → units_in records ≤ rows_limit
-    → length (table_bytes tile.interval (features_told records) ++ sized (pois_bytes (tile_corner tile) (features_told records))
+    → length (table_bytes tile.interval (features_told records) ++ sized
+    (pois_bytes (tile_corner tile) (features_told records))
     ++ ways_bytes tile (features_told records)) ≤ 16 * units_in records + 246
 unfolding sized class_bytes
 flat-room tile records is all within =
@@ -245,9 +248,12 @@ flat-room tile records is all within =
     let same = length-map records feature_told in
     let table = table-length tile fs is.top (omega (arith, few, within, same)) in
     let offset = length-five (length (pois_bytes (tile_corner tile) fs)) (omega (arith, pois, both, within)) in
-    let a = length-append (vbe_unsigned (length (pois_bytes (tile_corner tile) fs))) (pois_bytes (tile_corner tile) fs) in
-    let b = length-append (table_bytes tile.interval fs) (vbe_unsigned (length (pois_bytes (tile_corner tile) fs)) ++ pois_bytes (tile_corner tile) fs) in
-    let c = length-append (table_bytes tile.interval fs ++ (vbe_unsigned (length (pois_bytes (tile_corner tile) fs)) ++ pois_bytes (tile_corner tile) fs))
+    let a = length-append (vbe_unsigned (length (pois_bytes (tile_corner tile) fs)))
+    (pois_bytes (tile_corner tile) fs) in
+    let b = length-append (table_bytes tile.interval fs)
+    (vbe_unsigned (length (pois_bytes (tile_corner tile) fs)) ++ pois_bytes (tile_corner tile) fs) in
+    let c = length-append (table_bytes tile.interval
+    fs ++ (vbe_unsigned (length (pois_bytes (tile_corner tile) fs)) ++ pois_bytes (tile_corner tile) fs))
     (ways_bytes tile fs) in
     omega (arith, pois, ways, both, table, offset, a, b, c)
 
@@ -266,12 +272,15 @@ records-room tile (r ∷ records) is all ordered within =
     let room = flat-room tile (r ∷ records) is all within in
     omega (arith, flat, room)
 
+pub tile-most : (tile : TilePlace) (d : Desktop) → IsTile tile → HoldsMembers tile d → used d ≤ d.capacity
+    → length (tile_bytes tile (map feature_told d.records)) ≤ 16 * units_in d.records + 246
+tile-most tile d is h within =
+    let most = h.room in
+    records-room tile d.records is h.each (in-order tile d is h) (omega (arith, within, most))
+
 -- the output of a desk has room for the tile, and for ten bytes more
 pub tile-room : (tile : TilePlace) (d : Desktop) → IsTile tile → HoldsMembers tile d → used d ≤ d.capacity
     → length (tile_bytes tile (map feature_told d.records)) + 10 ≤ 16 * d.capacity + 256
-tile-room tile d is h within =
-    let most = h.room in
-    let room = records-room tile d.records is h.each (in-order tile d is h) (omega (arith, within, most)) in
-    omega (arith, room, within)
+tile-room tile d is h within = let room = tile-most tile d is h within in omega (arith, room, within)
 
 pub ruleset desk_laws = (tile-room)

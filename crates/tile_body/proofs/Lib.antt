@@ -13,3 +13,6 @@ pub mod Bodies
 pub mod Counting
 pub mod Wholes
 pub mod Wayside
+pub mod Added
+pub mod Admitted
+pub mod Order

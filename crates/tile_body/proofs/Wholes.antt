@@ -1,5 +1,6 @@
 -- A whole tile: what is put one after another, what holds of each member, and that the tile is read again.
-use Rattle.std.proofs.Common.{◌≡◌, ◌≢◌, ℕ, suc, ◌+◌, ◌*◌, ◌/◌, ◌^◌, ◌≤◌, ◌<◌, List, [], ◌∷◌, ◌++◌, length, map, refl, sym}
+use Rattle.std.proofs.Common.{◌≡◌, ◌≢◌, ℕ, suc, ◌+◌, ◌*◌, ◌/◌, ◌^◌, ◌≤◌, ◌<◌, List, [], ◌∷◌, ◌++◌, length, map, refl}
+use Rattle.std.proofs.Common.{sym}
 use Rattle.std.proofs.Common.{ap, ◌∙◌, arith, length-append, append_assoc, Bool, true, false, Ok, subst, Some, inl, inr}
 use Rattle.std.specs.Prelude.{nat_lt, min, IsTrue, slice_get}
 use Rattle.std.specs.List.{AllByRecursion}
@@ -57,7 +58,8 @@ pub body-fits : (tile : TilePlace) (r : Record) (d : Drawn) → IsWayIn tile r �
 unfolding way_told
 body-fits tile r d way drawn =
     let light = way.light in
-    let room = way-room-told (tile_corner tile) (sub_tile_bits (feature_told r) tile) r (tile_corner-in_range tile way.place.column) way.member way.light in
+    let room = way-room-told (tile_corner tile) (sub_tile_bits (feature_told r) tile) r
+    (tile_corner-in_range tile way.place.column) way.member way.light in
     let parts = ap length (way-parts tile r d drawn) in
     let sum = length-append (vbe_unsigned (length (body_of r d))) (body_of r d) in
     omega (arith, light, room, parts, sum)
@@ -111,42 +113,43 @@ parts-of tile [] ordered some = absurd (omega (arith, some))
 parts-of tile (r ∷ records) ordered some =
     tile_bytes-flat tile (feature_told r) (features_told records) ordered
 
-module _ (tile : TilePlace) (d : Desktop) (is : IsTile tile) (h : HoldsMembers tile d) (some : 0 < length d.records) where
-  pub tile-parts : tile_bytes tile (features_told d.records) ≡ whole tile d.records
-  tile-parts = parts-of tile d.records (in-order tile d is h) some
+module _ (tile : TilePlace) (d : Desktop) (is : IsTile tile) (h : HoldsMembers tile d) (some : 0 < length d.records)
+  where
+    pub tile-parts : tile_bytes tile (features_told d.records) ≡ whole tile d.records
+    tile-parts = parts-of tile d.records (in-order tile d is h) some
 
-  pub tile-length : length (tile_bytes tile (features_told d.records))
-      ≡ length (table_bytes tile.interval (features_told d.records))
-      + length (vbe_unsigned (length (pois_bytes (tile_corner tile) (features_told d.records))))
-      + length (pois_bytes (tile_corner tile) (features_told d.records))
-      + length (ways_bytes tile (features_told d.records))
-  tile-length =
-      let t = table_bytes tile.interval (features_told d.records) in
-      let p = pois_bytes (tile_corner tile) (features_told d.records) in
-      let v = vbe_unsigned (length p) in
-      let w = ways_bytes tile (features_told d.records) in
-      ap length tile-parts ∙ omega (
-        arith,
-        length-append (t ++ (v ++ p)) w,
-        length-append t (v ++ p),
-        length-append v p,
-      )
+    pub tile-length : length (tile_bytes tile (features_told d.records))
+        ≡ length (table_bytes tile.interval (features_told d.records))
+        + length (vbe_unsigned (length (pois_bytes (tile_corner tile) (features_told d.records))))
+        + length (pois_bytes (tile_corner tile) (features_told d.records))
+        + length (ways_bytes tile (features_told d.records))
+    tile-length =
+        let t = table_bytes tile.interval (features_told d.records) in
+        let p = pois_bytes (tile_corner tile) (features_told d.records) in
+        let v = vbe_unsigned (length p) in
+        let w = ways_bytes tile (features_told d.records) in
+        ap length tile-parts ∙ omega (
+          arith,
+          length-append (t ++ (v ++ p)) w,
+          length-append t (v ++ p),
+          length-append v p,
+        )
 
-  pub puts-tile : (b0 b1 b2 b3 b4 : Buffer) (size : ℕ)
-      → AppendsTo b0 b1 (table_bytes tile.interval (features_told d.records)) → AppendsTo b1 b2 (vbe_unsigned size)
-      → size ≡ length (pois_bytes (tile_corner tile) (features_told d.records))
-      → AppendsTo b2 b3 (pois_bytes (tile_corner tile) (features_told d.records))
-      → AppendsTo b3 b4 (ways_bytes tile (features_told d.records))
-      → AppendsTo b0 b4 (tile_bytes tile (features_told d.records))
-  puts-tile b0 b1 b2 b3 b4 size table offset size_is pois ways =
-      let t = table_bytes tile.interval (features_told d.records) in
-      let p = pois_bytes (tile_corner tile) (features_told d.records) in
-      let w = ways_bytes tile (features_told d.records) in
-      subst (AppendsTo b0 b4) (sym tile-parts)
-      (puts-two b0 b3 b4 (t ++ (vbe_unsigned (length p) ++ p)) w
-      (puts-two b0 b1 b3 t (vbe_unsigned (length p) ++ p) table
-      (puts-two b1 b2 b3 (vbe_unsigned (length p)) p
-      (subst (λ n. AppendsTo b1 b2 (vbe_unsigned n)) size_is offset) pois)) ways)
+    pub puts-tile : (b0 b1 b2 b3 b4 : Buffer) (size : ℕ)
+        → AppendsTo b0 b1 (table_bytes tile.interval (features_told d.records)) → AppendsTo b1 b2 (vbe_unsigned size)
+        → size ≡ length (pois_bytes (tile_corner tile) (features_told d.records))
+        → AppendsTo b2 b3 (pois_bytes (tile_corner tile) (features_told d.records))
+        → AppendsTo b3 b4 (ways_bytes tile (features_told d.records))
+        → AppendsTo b0 b4 (tile_bytes tile (features_told d.records))
+    puts-tile b0 b1 b2 b3 b4 size table offset size_is pois ways =
+        let t = table_bytes tile.interval (features_told d.records) in
+        let p = pois_bytes (tile_corner tile) (features_told d.records) in
+        let w = ways_bytes tile (features_told d.records) in
+        subst (AppendsTo b0 b4) (sym tile-parts)
+        (puts-two b0 b3 b4 (t ++ (vbe_unsigned (length p) ++ p)) w
+        (puts-two b0 b1 b3 t (vbe_unsigned (length p) ++ p) table
+        (puts-two b1 b2 b3 (vbe_unsigned (length p)) p
+        (subst (λ n. AppendsTo b1 b2 (vbe_unsigned n)) size_is offset) pois)) ways)
 
 pub no-members : (tile : TilePlace) (records : List Record) → length records ≡ 0
     → tile_bytes tile (features_told records) ≡ []

@@ -1,5 +1,6 @@
 pub mod FirstTile
 pub mod Members
+pub mod Tested
 pub mod Tags
 pub mod Ways
 pub mod Tiles

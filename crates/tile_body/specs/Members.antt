@@ -1,11 +1,12 @@
 -- What a desk holds when a tile is encoded from it: this project's profile.
-use Rattle.std.specs.Prelude.{◌^◌, ◌<◌, ◌≤◌, map, length, IsTrue, IfSome}
+use Rattle.std.specs.Prelude.{◌^◌, ◌-◌, ◌<◌, ◌≤◌, List, map, length, slice_get, Option, IsTrue, IfSome}
 use Rattle.std.specs.List.{AllByRecursion}
 use Rattle.mf_base.specs.Ranges.{is_on_earth, is_signed_32}
+use Rattle.mf_base.specs.declared.tile.Interval.{Interval}
 use Rattle.mf_base.specs.declared.tile.TilePlace.{TilePlace}
 use Rattle.feature_model.specs.Proper.{IsLayer, AllPlaces}
 use Rattle.map_model.specs.Room.{rows_limit, IsShort, IsKeptShort}
-use Rattle.map_model.specs.Members.{StandInOrder}
+use Rattle.map_model.specs.Members.{StandsBefore, StandInOrder}
 use Rattle.mf_rows.specs.Desks.{Desktop}
 use Rattle.mf_rows.specs.Records.{Record, text_in}
 use Rattle.mf_rows.specs.Shapes.{shape_told, feature_told, IsFeature}
@@ -44,3 +45,14 @@ pub record HoldsMembers (tile : TilePlace) (d : Desktop) : Type 0 where
   pub room : d.capacity ≤ rows_limit
   pub each : AllByRecursion IsMember d.records
   pub order : StandInOrder tile.interval (map feature_told d.records)
+
+-- the last of some records, where there is one
+abbrev pub last_of : List Record → Option Record
+last_of records = slice_get records (length records - 1)
+
+-- A record may be the next member of a tile behind others: its zoom level is at most the maximum, and the last of the
+-- others, where there is one, stands before it.
+pub record IsNext (interval : Interval) (others : List Record) (r : Record) : Type 0 where
+  pub member : IsMember r
+  pub low : r.head.zoom ≤ interval.max
+  pub behind : IfSome (last_of others) (λ (q : Record). StandsBefore interval (feature_told q) (feature_told r))

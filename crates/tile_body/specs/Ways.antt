@@ -10,7 +10,8 @@ use Rattle.feature_model.specs.Features.{Feature}
 use Rattle.map_model.specs.Rectangles.{blocks_of_shape}
 use Rattle.map_model.specs.Bitmap.{sub_tile_bits}
 use Rattle.map_model.specs.Labels.{label_place}
-use Rattle.map_model.specs.Layout.{WayFields, step, step_bytes, first_of_blocks, optional, flag, tag_bytes, way_body_bytes}
+use Rattle.map_model.specs.Layout.{WayFields, step, step_bytes, first_of_blocks, optional, flag, tag_bytes}
+use Rattle.map_model.specs.Layout.{way_body_bytes}
 use Rattle.map_model.specs.Room.{rows_limit}
 use Rattle.map_model.specs.TileBytes.{tile_corner, is_double, way_fields, way_bytes}
 use Rattle.mf_rows.specs.Records.{Record, text_in}

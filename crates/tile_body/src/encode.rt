@@ -1,6 +1,6 @@
 //! A tile, encoded from a desk.
 
-ghost use Rattle.std.specs.Prelude.{◌≡◌, ◌+◌, ◌≤◌, ◌==◌, length, map, Ok};
+ghost use Rattle.std.specs.Prelude.{◌≡◌, ◌+◌, ◌*◌, ◌≤◌, ◌==◌, length, map, Ok};
 ghost use Rattle.std.specs.List.{AllByRecursion};
 ghost use Rattle.feature_model.specs.Mapping.{Mapping};
 ghost use Rattle.feature_model.specs.Entries.{IsMapping};
@@ -9,7 +9,7 @@ ghost use Rattle.map_model.specs.TileBytes.{tile_bytes};
 ghost use Rattle.map_model.specs.TileReading.{read_tile};
 ghost use Rattle.map_model.specs.TagLists.{tag_lists};
 ghost use Rattle.map_model.specs.Listed.{listed};
-ghost use Rattle.mf_rows.specs.Desks.{used};
+ghost use Rattle.mf_rows.specs.Desks.{used, units_in};
 ghost use Rattle.tile_body.specs.Members.{IsTile, HoldsMembers};
 ghost use Rattle.tile_body.specs.Tiles.{features_told};
 
@@ -23,7 +23,8 @@ use mf_rows::desk::Desk;
 use mf_rows::records::Records;
 
 /// Leaves in the desk's output the bytes of a tile whose members are the desk's records, in their order. Records and
-/// water answer stay as they were. What was in the output before is forgotten.
+/// water answer stay as they were. What was in the output before is forgotten. At most 16 bytes for each unit of the
+/// records and 246 more are put, so there is always room.
 pub fn encode(desk: &mut Desk, place: &TilePlace, rows: &Rows)
     requires tile { IsTile place.now }
     requires members { HoldsMembers place.now desk.old.records }
@@ -32,6 +33,7 @@ pub fn encode(desk: &mut Desk, place: &TilePlace, rows: &Rows)
         → AllByRecursion (IsWritten mapping) (features_told desk.old.records.records)
         → read_tile (tag_lists mapping) place.now desk.new.out.bytes
         ≡ Ok (map (listed (tag_lists mapping) place.now) (features_told desk.old.records.records)) }
+    ensures most { length desk.new.out.bytes ≤ 16 * units_in desk.old.records.records + 246 }
     ensures records { desk.new.records ≡ desk.old.records }
     ensures water { desk.new.water ≡ desk.old.water }
 {
@@ -65,3 +67,6 @@ fn is_empty(records: &Records) -> bool
 {
     records.len() == 0
 }
+
+#[cfg(test)]
+mod tests;

@@ -127,8 +127,8 @@ fn size_value(view: &View, at: u8, value: KeptValue) -> u64
     }
 }
 
-// The text of the tag of this place, empty where there is none.
-fn tag_text<'a>(view: &View<'a>, at: u8) -> &'a [u8]
+/// The text of the tag of this place, empty where there is none.
+pub(crate) fn tag_text<'a>(view: &View<'a>, at: u8) -> &'a [u8]
     ensures { result.now ≡ unwrap_or (text_in view.now.texts (Tag at)) [] }
 {
     match view.text(TextSlot::Tag(at)) {

@@ -1,9 +1,9 @@
-use Rattle.std.proofs.Common.{◌≡◌, ◌∙◌, ◌≤◌, ap, arith}
+use Rattle.std.proofs.Common.{◌≡◌, ◌∙◌, ◌≤◌, ap, length, arith}
 use Rattle.mf_base.specs.Buffer.{Buffer}
 use Rattle.map_model.specs.TagLists.{tag_lists}
 use Rattle.map_model.specs.TileReading.{read_tile}
 use Rattle.mf_rows.specs.Desks.{used}
-use Rattle.tile_body.proofs.DeskRoom.{tile-room}
+use Rattle.tile_body.proofs.DeskRoom.{tile-room, tile-most}
 use Rattle.tile_body.proofs.Wholes.{read-told}
 use Rattle.tile_body.proofs.encode.encode.Goals as goal
 
@@ -19,3 +19,10 @@ returns-clause-read c mapping m all =
     let room = tile-room c.args.place.now c.args.desk.now.records c.requires.tile c.requires.members within in
     ap (λ (b : Buffer). read_tile (tag_lists mapping) c.args.place.now b.bytes) c.put_tile.ensures
     ∙ read-told mapping c.args.place.now c.args.desk.now.records c.requires.tile c.requires.members within room m all
+
+pub returns-clause-most : goal.returns-clause-most
+returns-clause-most c =
+    let within : used c.args.desk.now.records ≤ c.args.desk.now.records.capacity = omega (arith, c.spare.ensures) in
+    let most = tile-most c.args.place.now c.args.desk.now.records c.requires.tile c.requires.members within in
+    let size = ap (λ (b : Buffer). length b.bytes) c.put_tile.ensures in
+    omega (arith, most, size)

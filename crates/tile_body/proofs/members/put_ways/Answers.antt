@@ -5,7 +5,8 @@ use Rattle.map_model.specs.TileBytes.{poi_bytes}
 use Rattle.mf_rows.specs.Shapes.{feature_told}
 use Rattle.tile_body.specs.Members.{IsMember}
 use Rattle.tile_body.specs.Tiles.{part_of, way_in}
-use Rattle.tile_body.proofs.Classes.{holds-at, units-at, class-none, class-room, class-puts, class-all}
+use Rattle.way_delta.proofs.OfDesk.{units-at}
+use Rattle.tile_body.proofs.Classes.{holds-at, class-none, class-room, class-puts, class-all}
 use Rattle.tile_body.proofs.members.put_ways.Goals as goal
 
 pub loop-i-init : goal.loop-i-init
@@ -17,12 +18,14 @@ put_if_way-requires-clause-member c =
 
 pub put_if_way-requires-clause-room : goal.put_if_way-requires-clause-room
 put_if_way-requires-clause-room c =
-    class-room (way_in c.args.tile.now) is_way c.loop-i.out c.args.out.now c.args.records.now.records c.loop-i.i c.view.result c.view.ensures
+    class-room (way_in c.args.tile.now) is_way c.loop-i.out c.args.out.now c.args.records.now.records c.loop-i.i
+    c.view.result c.view.ensures
     c.loop-i.invariant c.requires.room
 
 pub loop-i-preserved : goal.loop-i-preserved
 loop-i-preserved c =
-    class-puts (way_in c.args.tile.now) is_way c.loop-i.out c.put_if_way.new.out c.args.out.now c.args.records.now.records c.loop-i.i c.view.result
+    class-puts (way_in c.args.tile.now) is_way c.loop-i.out c.put_if_way.new.out c.args.out.now
+    c.args.records.now.records c.loop-i.i c.view.result
     c.view.ensures c.loop-i.invariant c.put_if_way.ensures.appends
 
 pub returns : goal.returns

@@ -22,7 +22,8 @@ put_tags-requires-clause-room c =
     let all = poi-length c.args.corner c.args.view.now c.requires.node in
     let step_is = c.step_between.ensures.step ∙ ap (step c.args.corner) c.place_of.ensures in
     let size = ap (λ s. length (step_bytes s)) step_is in
-    let a = size-after c.args.out.now c.put_step.new.out (step_bytes (shown c.step_between.result)) c.put_step.ensures.appends in
+    let a = size-after c.args.out.now c.put_step.new.out (step_bytes (shown c.step_between.result))
+    c.put_step.ensures.appends in
     let a0 = a.0 in
     let a1 = a.1 in
     omega (arith, all, size, a0, a1, c.requires.room)
@@ -32,8 +33,10 @@ put-requires c =
     let all = poi-length c.args.corner c.args.view.now c.requires.node in
     let step_is = c.step_between.ensures.step ∙ ap (step c.args.corner) c.place_of.ensures in
     let size = ap (λ s. length (step_bytes s)) step_is in
-    let a = size-after c.args.out.now c.put_step.new.out (step_bytes (shown c.step_between.result)) c.put_step.ensures.appends in
-    let b = size-after c.put_step.new.out c.put_tags.new.out (tag_bytes c.args.view.now.head.layer (tags_told c.args.view.now)) c.put_tags.ensures.appends in
+    let a = size-after c.args.out.now c.put_step.new.out (step_bytes (shown c.step_between.result))
+    c.put_step.ensures.appends in
+    let b = size-after c.put_step.new.out c.put_tags.new.out
+    (tag_bytes c.args.view.now.head.layer (tags_told c.args.view.now)) c.put_tags.ensures.appends in
     let a0 = a.0 in
     let a1 = a.1 in
     let b0 = b.0 in
@@ -45,8 +48,10 @@ put_text-requires c =
     let all = poi-length c.args.corner c.args.view.now c.requires.node in
     let step_is = c.step_between.ensures.step ∙ ap (step c.args.corner) c.place_of.ensures in
     let size = ap (λ s. length (step_bytes s)) step_is in
-    let a = size-after c.args.out.now c.put_step.new.out (step_bytes (shown c.step_between.result)) c.put_step.ensures.appends in
-    let b = size-after c.put_step.new.out c.put_tags.new.out (tag_bytes c.args.view.now.head.layer (tags_told c.args.view.now)) c.put_tags.ensures.appends in
+    let a = size-after c.args.out.now c.put_step.new.out (step_bytes (shown c.step_between.result))
+    c.put_step.ensures.appends in
+    let b = size-after c.put_step.new.out c.put_tags.new.out
+    (tag_bytes c.args.view.now.head.layer (tags_told c.args.view.now)) c.put_tags.ensures.appends in
     let f = size-after c.put_tags.new.out c.put.new.self (c.flags.result ∷ []) c.put.ensures in
     let a0 = a.0 in
     let a1 = a.1 in
@@ -61,10 +66,13 @@ put_text-requires-2 c =
     let all = poi-length c.args.corner c.args.view.now c.requires.node in
     let step_is = c.step_between.ensures.step ∙ ap (step c.args.corner) c.place_of.ensures in
     let size = ap (λ s. length (step_bytes s)) step_is in
-    let a = size-after c.args.out.now c.put_step.new.out (step_bytes (shown c.step_between.result)) c.put_step.ensures.appends in
-    let b = size-after c.put_step.new.out c.put_tags.new.out (tag_bytes c.args.view.now.head.layer (tags_told c.args.view.now)) c.put_tags.ensures.appends in
+    let a = size-after c.args.out.now c.put_step.new.out (step_bytes (shown c.step_between.result))
+    c.put_step.ensures.appends in
+    let b = size-after c.put_step.new.out c.put_tags.new.out
+    (tag_bytes c.args.view.now.head.layer (tags_told c.args.view.now)) c.put_tags.ensures.appends in
     let f = size-after c.put_tags.new.out c.put.new.self (c.flags.result ∷ []) c.put.ensures in
-    let n = size-after c.put.new.self c.put_text.new.out (optional string (text_in c.args.view.now.texts Name)) c.put_text.ensures.appends in
+    let n = size-after c.put.new.self c.put_text.new.out (optional string (text_in c.args.view.now.texts Name))
+    c.put_text.ensures.appends in
     let a0 = a.0 in
     let a1 = a.1 in
     let b0 = b.0 in
@@ -80,11 +88,15 @@ put_height-requires c =
     let all = poi-length c.args.corner c.args.view.now c.requires.node in
     let step_is = c.step_between.ensures.step ∙ ap (step c.args.corner) c.place_of.ensures in
     let size = ap (λ s. length (step_bytes s)) step_is in
-    let a = size-after c.args.out.now c.put_step.new.out (step_bytes (shown c.step_between.result)) c.put_step.ensures.appends in
-    let b = size-after c.put_step.new.out c.put_tags.new.out (tag_bytes c.args.view.now.head.layer (tags_told c.args.view.now)) c.put_tags.ensures.appends in
+    let a = size-after c.args.out.now c.put_step.new.out (step_bytes (shown c.step_between.result))
+    c.put_step.ensures.appends in
+    let b = size-after c.put_step.new.out c.put_tags.new.out
+    (tag_bytes c.args.view.now.head.layer (tags_told c.args.view.now)) c.put_tags.ensures.appends in
     let f = size-after c.put_tags.new.out c.put.new.self (c.flags.result ∷ []) c.put.ensures in
-    let n = size-after c.put.new.self c.put_text.new.out (optional string (text_in c.args.view.now.texts Name)) c.put_text.ensures.appends in
-    let h = size-after c.put_text.new.out c.put_text-2.new.out (optional string (text_in c.args.view.now.texts House)) c.put_text-2.ensures.appends in
+    let n = size-after c.put.new.self c.put_text.new.out (optional string (text_in c.args.view.now.texts Name))
+    c.put_text.ensures.appends in
+    let h = size-after c.put_text.new.out c.put_text-2.new.out (optional string (text_in c.args.view.now.texts House))
+    c.put_text-2.ensures.appends in
     let a0 = a.0 in
     let a1 = a.1 in
     let b0 = b.0 in
@@ -102,7 +114,8 @@ pub returns : goal.returns
 returns c =
     let step_is = c.step_between.ensures.step ∙ ap (step c.args.corner) c.place_of.ensures in
     record {
-      appends = puts-poi c.args.corner c.args.view.now c.requires.node c.args.out.now c.put_step.new.out c.put_tags.new.out c.put.new.self c.put_text.new.out c.put_text-2.new.out c.put_height.new.out
+      appends = puts-poi c.args.corner c.args.view.now c.requires.node c.args.out.now c.put_step.new.out
+          c.put_tags.new.out c.put.new.self c.put_text.new.out c.put_text-2.new.out c.put_height.new.out
           (subst (λ s. AppendsTo c.args.out.now c.put_step.new.out (step_bytes s)) step_is c.put_step.ensures.appends)
           c.put_tags.ensures.appends
           (subst (λ f. AppendsTo c.put_tags.new.out c.put.new.self (f ∷ [])) c.flags.ensures c.put.ensures)

@@ -38,7 +38,15 @@ overflow_add-result-4 c =
     let all = poi-length c.args.corner c.args.view.now c.requires.node in
     let step_is = c.step_between.ensures.step ∙ ap (step c.args.corner) c.place_of.ensures in
     let size = c.size_step.ensures.size ∙ ap (λ s. length (step_bytes s)) step_is in
-    omega (arith, all, size, c.size_tags.ensures.size, c.size_text.ensures.size, c.size_text-2.ensures.size, c.requires.few)
+    omega (
+      arith,
+      all,
+      size,
+      c.size_tags.ensures.size,
+      c.size_text.ensures.size,
+      c.size_text-2.ensures.size,
+      c.requires.few,
+    )
 
 pub overflow_add-result-5 : goal.overflow_add-result-5
 overflow_add-result-5 c =
@@ -46,7 +54,16 @@ overflow_add-result-5 c =
     let step_is = c.step_between.ensures.step ∙ ap (step c.args.corner) c.place_of.ensures in
     let size = c.size_step.ensures.size ∙ ap (λ s. length (step_bytes s)) step_is in
     let height = c.size_height.ensures.size ∙ ap (λ (g : Head). length (optional vbe_signed g.height)) c.head.ensures in
-    omega (arith, all, size, c.size_tags.ensures.size, c.size_text.ensures.size, c.size_text-2.ensures.size, height, c.requires.few)
+    omega (
+      arith,
+      all,
+      size,
+      c.size_tags.ensures.size,
+      c.size_text.ensures.size,
+      c.size_text-2.ensures.size,
+      height,
+      c.requires.few,
+    )
 
 pub returns : goal.returns
 returns c =
@@ -54,4 +71,14 @@ returns c =
     let step_is = c.step_between.ensures.step ∙ ap (step c.args.corner) c.place_of.ensures in
     let size = c.size_step.ensures.size ∙ ap (λ s. length (step_bytes s)) step_is in
     let height = c.size_height.ensures.size ∙ ap (λ (g : Head). length (optional vbe_signed g.height)) c.head.ensures in
-    record { size = omega (arith, all, size, c.size_tags.ensures.size, c.size_text.ensures.size, c.size_text-2.ensures.size, height) }
+    record {
+      size = omega (
+        arith,
+        all,
+        size,
+        c.size_tags.ensures.size,
+        c.size_text.ensures.size,
+        c.size_text-2.ensures.size,
+        height,
+      );
+    }

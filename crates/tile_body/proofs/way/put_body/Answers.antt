@@ -33,7 +33,8 @@ put-requires c =
     let s0 = size-after c.args.out.now c.put_be.new.out (big_endian 2 c.from.result) c.put_be.ensures.appends in
     let a0 = s0.0 in
     let b0 = s0.1 in
-    let s1 = size-after c.put_be.new.out c.put_tags.new.out (tag_bytes c.args.view.now.head.layer (tags_told c.args.view.now)) c.put_tags.ensures.appends in
+    let s1 = size-after c.put_be.new.out c.put_tags.new.out
+    (tag_bytes c.args.view.now.head.layer (tags_told c.args.view.now)) c.put_tags.ensures.appends in
     let a1 = s1.0 in
     let b1 = s1.1 in
     let bits = length-big_endian 2 c.from.result in
@@ -45,7 +46,8 @@ put_text-requires c =
     let s0 = size-after c.args.out.now c.put_be.new.out (big_endian 2 c.from.result) c.put_be.ensures.appends in
     let a0 = s0.0 in
     let b0 = s0.1 in
-    let s1 = size-after c.put_be.new.out c.put_tags.new.out (tag_bytes c.args.view.now.head.layer (tags_told c.args.view.now)) c.put_tags.ensures.appends in
+    let s1 = size-after c.put_be.new.out c.put_tags.new.out
+    (tag_bytes c.args.view.now.head.layer (tags_told c.args.view.now)) c.put_tags.ensures.appends in
     let a1 = s1.0 in
     let b1 = s1.1 in
     let s2 = size-after c.put_tags.new.out c.put.new.self (c.flags.result ∷ []) c.put.ensures in
@@ -60,13 +62,15 @@ put_text-requires-2 c =
     let s0 = size-after c.args.out.now c.put_be.new.out (big_endian 2 c.from.result) c.put_be.ensures.appends in
     let a0 = s0.0 in
     let b0 = s0.1 in
-    let s1 = size-after c.put_be.new.out c.put_tags.new.out (tag_bytes c.args.view.now.head.layer (tags_told c.args.view.now)) c.put_tags.ensures.appends in
+    let s1 = size-after c.put_be.new.out c.put_tags.new.out
+    (tag_bytes c.args.view.now.head.layer (tags_told c.args.view.now)) c.put_tags.ensures.appends in
     let a1 = s1.0 in
     let b1 = s1.1 in
     let s2 = size-after c.put_tags.new.out c.put.new.self (c.flags.result ∷ []) c.put.ensures in
     let a2 = s2.0 in
     let b2 = s2.1 in
-    let s3 = size-after c.put.new.self c.put_text.new.out (optional string (text_in c.args.view.now.texts Name)) c.put_text.ensures.appends in
+    let s3 = size-after c.put.new.self c.put_text.new.out (optional string (text_in c.args.view.now.texts Name))
+    c.put_text.ensures.appends in
     let a3 = s3.0 in
     let b3 = s3.1 in
     let bits = length-big_endian 2 c.from.result in
@@ -78,16 +82,19 @@ put_text-requires-3 c =
     let s0 = size-after c.args.out.now c.put_be.new.out (big_endian 2 c.from.result) c.put_be.ensures.appends in
     let a0 = s0.0 in
     let b0 = s0.1 in
-    let s1 = size-after c.put_be.new.out c.put_tags.new.out (tag_bytes c.args.view.now.head.layer (tags_told c.args.view.now)) c.put_tags.ensures.appends in
+    let s1 = size-after c.put_be.new.out c.put_tags.new.out
+    (tag_bytes c.args.view.now.head.layer (tags_told c.args.view.now)) c.put_tags.ensures.appends in
     let a1 = s1.0 in
     let b1 = s1.1 in
     let s2 = size-after c.put_tags.new.out c.put.new.self (c.flags.result ∷ []) c.put.ensures in
     let a2 = s2.0 in
     let b2 = s2.1 in
-    let s3 = size-after c.put.new.self c.put_text.new.out (optional string (text_in c.args.view.now.texts Name)) c.put_text.ensures.appends in
+    let s3 = size-after c.put.new.self c.put_text.new.out (optional string (text_in c.args.view.now.texts Name))
+    c.put_text.ensures.appends in
     let a3 = s3.0 in
     let b3 = s3.1 in
-    let s4 = size-after c.put_text.new.out c.put_text-2.new.out (optional string (text_in c.args.view.now.texts House)) c.put_text-2.ensures.appends in
+    let s4 = size-after c.put_text.new.out c.put_text-2.new.out
+    (optional string (text_in c.args.view.now.texts House)) c.put_text-2.ensures.appends in
     let a4 = s4.0 in
     let b4 = s4.1 in
     let bits = length-big_endian 2 c.from.result in
@@ -99,19 +106,23 @@ put_label-requires-clause-room c =
     let s0 = size-after c.args.out.now c.put_be.new.out (big_endian 2 c.from.result) c.put_be.ensures.appends in
     let a0 = s0.0 in
     let b0 = s0.1 in
-    let s1 = size-after c.put_be.new.out c.put_tags.new.out (tag_bytes c.args.view.now.head.layer (tags_told c.args.view.now)) c.put_tags.ensures.appends in
+    let s1 = size-after c.put_be.new.out c.put_tags.new.out
+    (tag_bytes c.args.view.now.head.layer (tags_told c.args.view.now)) c.put_tags.ensures.appends in
     let a1 = s1.0 in
     let b1 = s1.1 in
     let s2 = size-after c.put_tags.new.out c.put.new.self (c.flags.result ∷ []) c.put.ensures in
     let a2 = s2.0 in
     let b2 = s2.1 in
-    let s3 = size-after c.put.new.self c.put_text.new.out (optional string (text_in c.args.view.now.texts Name)) c.put_text.ensures.appends in
+    let s3 = size-after c.put.new.self c.put_text.new.out (optional string (text_in c.args.view.now.texts Name))
+    c.put_text.ensures.appends in
     let a3 = s3.0 in
     let b3 = s3.1 in
-    let s4 = size-after c.put_text.new.out c.put_text-2.new.out (optional string (text_in c.args.view.now.texts House)) c.put_text-2.ensures.appends in
+    let s4 = size-after c.put_text.new.out c.put_text-2.new.out
+    (optional string (text_in c.args.view.now.texts House)) c.put_text-2.ensures.appends in
     let a4 = s4.0 in
     let b4 = s4.1 in
-    let s5 = size-after c.put_text-2.new.out c.put_text-3.new.out (optional string (text_in c.args.view.now.texts Reference)) c.put_text-3.ensures.appends in
+    let s5 = size-after c.put_text-2.new.out c.put_text-3.new.out
+    (optional string (text_in c.args.view.now.texts Reference)) c.put_text-3.ensures.appends in
     let a5 = s5.0 in
     let b5 = s5.1 in
     let bits = length-big_endian 2 c.from.result in
@@ -123,22 +134,27 @@ put_block_count-requires-clause-room c =
     let s0 = size-after c.args.out.now c.put_be.new.out (big_endian 2 c.from.result) c.put_be.ensures.appends in
     let a0 = s0.0 in
     let b0 = s0.1 in
-    let s1 = size-after c.put_be.new.out c.put_tags.new.out (tag_bytes c.args.view.now.head.layer (tags_told c.args.view.now)) c.put_tags.ensures.appends in
+    let s1 = size-after c.put_be.new.out c.put_tags.new.out
+    (tag_bytes c.args.view.now.head.layer (tags_told c.args.view.now)) c.put_tags.ensures.appends in
     let a1 = s1.0 in
     let b1 = s1.1 in
     let s2 = size-after c.put_tags.new.out c.put.new.self (c.flags.result ∷ []) c.put.ensures in
     let a2 = s2.0 in
     let b2 = s2.1 in
-    let s3 = size-after c.put.new.self c.put_text.new.out (optional string (text_in c.args.view.now.texts Name)) c.put_text.ensures.appends in
+    let s3 = size-after c.put.new.self c.put_text.new.out (optional string (text_in c.args.view.now.texts Name))
+    c.put_text.ensures.appends in
     let a3 = s3.0 in
     let b3 = s3.1 in
-    let s4 = size-after c.put_text.new.out c.put_text-2.new.out (optional string (text_in c.args.view.now.texts House)) c.put_text-2.ensures.appends in
+    let s4 = size-after c.put_text.new.out c.put_text-2.new.out
+    (optional string (text_in c.args.view.now.texts House)) c.put_text-2.ensures.appends in
     let a4 = s4.0 in
     let b4 = s4.1 in
-    let s5 = size-after c.put_text-2.new.out c.put_text-3.new.out (optional string (text_in c.args.view.now.texts Reference)) c.put_text-3.ensures.appends in
+    let s5 = size-after c.put_text-2.new.out c.put_text-3.new.out
+    (optional string (text_in c.args.view.now.texts Reference)) c.put_text-3.ensures.appends in
     let a5 = s5.0 in
     let b5 = s5.1 in
-    let s6 = size-after c.put_text-3.new.out c.put_label.new.out (optional step_bytes (option_map shown c.args.drawn.now.label)) c.put_label.ensures.appends in
+    let s6 = size-after c.put_text-3.new.out c.put_label.new.out
+    (optional step_bytes (option_map shown c.args.drawn.now.label)) c.put_label.ensures.appends in
     let a6 = s6.0 in
     let b6 = s6.1 in
     let bits = length-big_endian 2 c.from.result in
@@ -150,25 +166,31 @@ put_blocks-requires-clause-room c =
     let s0 = size-after c.args.out.now c.put_be.new.out (big_endian 2 c.from.result) c.put_be.ensures.appends in
     let a0 = s0.0 in
     let b0 = s0.1 in
-    let s1 = size-after c.put_be.new.out c.put_tags.new.out (tag_bytes c.args.view.now.head.layer (tags_told c.args.view.now)) c.put_tags.ensures.appends in
+    let s1 = size-after c.put_be.new.out c.put_tags.new.out
+    (tag_bytes c.args.view.now.head.layer (tags_told c.args.view.now)) c.put_tags.ensures.appends in
     let a1 = s1.0 in
     let b1 = s1.1 in
     let s2 = size-after c.put_tags.new.out c.put.new.self (c.flags.result ∷ []) c.put.ensures in
     let a2 = s2.0 in
     let b2 = s2.1 in
-    let s3 = size-after c.put.new.self c.put_text.new.out (optional string (text_in c.args.view.now.texts Name)) c.put_text.ensures.appends in
+    let s3 = size-after c.put.new.self c.put_text.new.out (optional string (text_in c.args.view.now.texts Name))
+    c.put_text.ensures.appends in
     let a3 = s3.0 in
     let b3 = s3.1 in
-    let s4 = size-after c.put_text.new.out c.put_text-2.new.out (optional string (text_in c.args.view.now.texts House)) c.put_text-2.ensures.appends in
+    let s4 = size-after c.put_text.new.out c.put_text-2.new.out
+    (optional string (text_in c.args.view.now.texts House)) c.put_text-2.ensures.appends in
     let a4 = s4.0 in
     let b4 = s4.1 in
-    let s5 = size-after c.put_text-2.new.out c.put_text-3.new.out (optional string (text_in c.args.view.now.texts Reference)) c.put_text-3.ensures.appends in
+    let s5 = size-after c.put_text-2.new.out c.put_text-3.new.out
+    (optional string (text_in c.args.view.now.texts Reference)) c.put_text-3.ensures.appends in
     let a5 = s5.0 in
     let b5 = s5.1 in
-    let s6 = size-after c.put_text-3.new.out c.put_label.new.out (optional step_bytes (option_map shown c.args.drawn.now.label)) c.put_label.ensures.appends in
+    let s6 = size-after c.put_text-3.new.out c.put_label.new.out
+    (optional step_bytes (option_map shown c.args.drawn.now.label)) c.put_label.ensures.appends in
     let a6 = s6.0 in
     let b6 = s6.1 in
-    let s7 = size-after c.put_label.new.out c.put_block_count.new.out (block_count_bytes c.args.drawn.now.blocks) c.put_block_count.ensures.appends in
+    let s7 = size-after c.put_label.new.out c.put_block_count.new.out (block_count_bytes c.args.drawn.now.blocks)
+    c.put_block_count.ensures.appends in
     let a7 = s7.0 in
     let b7 = s7.1 in
     let bits = length-big_endian 2 c.from.result in
@@ -176,7 +198,10 @@ put_blocks-requires-clause-room c =
 
 pub returns : goal.returns
 returns c = record {
-  appends = puts-body c.args.view.now c.args.drawn.now c.args.out.now c.put_be.new.out c.put_tags.new.out c.put.new.self c.put_text.new.out c.put_text-2.new.out c.put_text-3.new.out c.put_label.new.out c.put_block_count.new.out c.put_blocks.new.out (subst (λ n. AppendsTo c.args.out.now c.put_be.new.out (big_endian 2 n)) c.from.ensures c.put_be.ensures.appends)
+  appends = puts-body c.args.view.now c.args.drawn.now c.args.out.now c.put_be.new.out c.put_tags.new.out
+      c.put.new.self c.put_text.new.out c.put_text-2.new.out c.put_text-3.new.out c.put_label.new.out
+      c.put_block_count.new.out c.put_blocks.new.out (subst
+      (λ n. AppendsTo c.args.out.now c.put_be.new.out (big_endian 2 n)) c.from.ensures c.put_be.ensures.appends)
       c.put_tags.ensures.appends
       (subst (λ f. AppendsTo c.put_tags.new.out c.put.new.self (f ∷ [])) c.flags.ensures c.put.ensures)
       c.put_text.ensures.appends c.put_text-2.ensures.appends c.put_text-3.ensures.appends

@@ -27,24 +27,74 @@ overflow_add-result-3 c =
 pub overflow_add-result-4 : goal.overflow_add-result-4
 overflow_add-result-4 c =
     let all = body-length c.args.view.now c.args.drawn.now in
-    omega (arith, all, c.size_tags.ensures.size, c.size_text.ensures.size, c.size_text-2.ensures.size, c.size_text-3.ensures.size, c.requires.fits)
+    omega (
+      arith,
+      all,
+      c.size_tags.ensures.size,
+      c.size_text.ensures.size,
+      c.size_text-2.ensures.size,
+      c.size_text-3.ensures.size,
+      c.requires.fits,
+    )
 
 pub overflow_add-result-5 : goal.overflow_add-result-5
 overflow_add-result-5 c =
     let all = body-length c.args.view.now c.args.drawn.now in
-    omega (arith, all, c.size_tags.ensures.size, c.size_text.ensures.size, c.size_text-2.ensures.size, c.size_text-3.ensures.size, c.size_label.ensures.size, c.requires.fits)
+    omega (
+      arith,
+      all,
+      c.size_tags.ensures.size,
+      c.size_text.ensures.size,
+      c.size_text-2.ensures.size,
+      c.size_text-3.ensures.size,
+      c.size_label.ensures.size,
+      c.requires.fits,
+    )
 
 pub overflow_add-result-6 : goal.overflow_add-result-6
 overflow_add-result-6 c =
     let all = body-length c.args.view.now c.args.drawn.now in
-    omega (arith, all, c.size_tags.ensures.size, c.size_text.ensures.size, c.size_text-2.ensures.size, c.size_text-3.ensures.size, c.size_label.ensures.size, c.size_block_count.ensures.size, c.requires.fits)
+    omega (
+      arith,
+      all,
+      c.size_tags.ensures.size,
+      c.size_text.ensures.size,
+      c.size_text-2.ensures.size,
+      c.size_text-3.ensures.size,
+      c.size_label.ensures.size,
+      c.size_block_count.ensures.size,
+      c.requires.fits,
+    )
 
 pub overflow_add-result-7 : goal.overflow_add-result-7
 overflow_add-result-7 c =
     let all = body-length c.args.view.now c.args.drawn.now in
-    omega (arith, all, c.size_tags.ensures.size, c.size_text.ensures.size, c.size_text-2.ensures.size, c.size_text-3.ensures.size, c.size_label.ensures.size, c.size_block_count.ensures.size, c.requires.sized.size, c.requires.fits)
+    omega (
+      arith,
+      all,
+      c.size_tags.ensures.size,
+      c.size_text.ensures.size,
+      c.size_text-2.ensures.size,
+      c.size_text-3.ensures.size,
+      c.size_label.ensures.size,
+      c.size_block_count.ensures.size,
+      c.requires.sized.size,
+      c.requires.fits,
+    )
 
 pub returns : goal.returns
 returns c =
     let all = body-length c.args.view.now c.args.drawn.now in
-    record { size = omega (arith, all, c.size_tags.ensures.size, c.size_text.ensures.size, c.size_text-2.ensures.size, c.size_text-3.ensures.size, c.size_label.ensures.size, c.size_block_count.ensures.size, c.requires.sized.size) }
+    record {
+      size = omega (
+        arith,
+        all,
+        c.size_tags.ensures.size,
+        c.size_text.ensures.size,
+        c.size_text-2.ensures.size,
+        c.size_text-3.ensures.size,
+        c.size_label.ensures.size,
+        c.size_block_count.ensures.size,
+        c.requires.sized.size,
+      );
+    }
