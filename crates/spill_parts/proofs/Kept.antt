@@ -2,7 +2,7 @@
 use Rattle.std.proofs.Common.{◌≡◌, ◌≢◌, ℕ, true, List, Some, None, refl, sym, rules, subst, ◌∷◌, ◌∙◌, ap}
 use Rattle.mf_edge.specs.Spill.{SpillState, SameStore, SameParts, KeepsOthers, IsMade}
 use Rattle.mf_rows.specs.RowKinds.{Kind}
-use Rattle.spill_parts.specs.Parts.{Part, Piece, IsThere, Reading, PageBytes, IsReading, GivesNext}
+use Rattle.spill_parts.specs.Parts.{Piece, IsThere, Reading, PageBytes, IsReading, GivesNext}
 
 some_is_none : {n : ℕ} → Some n ≡ None → ⊥
 some_is_none e = search (e, rules)

@@ -1,7 +1,7 @@
 -- The join of two lists of rows by a key that both have. This project's own.
-use Rattle.std.specs.Prelude.{◌≡◌, ◌+◌, ℕ, ◌<◌, ◌≤◌, nat_lt, ◌==◌, Bool, false, if◌then◌else◌, List, [], ◌∷◌}
+use Rattle.std.specs.Prelude.{◌≡◌, ◌⊎◌, ◌+◌, ℕ, ◌<◌, ◌≤◌, nat_lt, ◌==◌, Bool, false, if◌then◌else◌, List, [], ◌∷◌}
 use Rattle.std.specs.Prelude.{filter_map, find, Option, Some, None, option_map, ⊤, true}
-use Rattle.mf_edge.specs.Spill.{SpillState, KeepsOthers}
+use Rattle.mf_edge.specs.Spill.{SpillState, SameParts, KeepsOthers}
 use Rattle.std.specs.List.{AllByRecursion}
 use Rattle.mf_rows.specs.RowKinds.{Kind}
 use Rattle.spill_parts.specs.Parts.{Reading, PageBytes, IsReading}
@@ -66,3 +66,7 @@ pub record IsAdded (part : ℕ) (before after : SpillState) : Type 0 where
   pub fresh : before.size part ≡ None
   pub count : after.count ≡ before.count + 1
   pub others : KeepsOthers part before after
+
+-- What a call that adds a part and fails leaves: all parts are as before, or one part more is there.
+abbrev pub AddsAtMostOne : (before after : SpillState) → Type 0
+AddsAtMostOne before after = SameParts before after ⊎ ((part : ℕ) × IsAdded part before after)

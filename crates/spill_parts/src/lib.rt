@@ -7,6 +7,8 @@ mod lookup;
 mod merge;
 mod part;
 mod reader;
+#[cfg(test)]
+mod test_parts;
 mod told;
 mod uses;
 mod writer;

@@ -2,9 +2,9 @@
 
 ghost use Rattle.std.specs.Prelude.{◌≡◌, ◌≢◌, ◌==◌, ◌+◌, ◌*◌, ◌≤◌, ◌<◌, true, ◌++◌, length, find, IfOk, OnOk, OnErr};
 ghost use Rattle.mf_edge.specs.Device.{CountsOne};
-ghost use Rattle.mf_edge.specs.Spill.{SameStore, TouchesOnly, most_parts};
+ghost use Rattle.mf_edge.specs.Spill.{SameStore, TouchesOnly, most_parts, part_limit};
 ghost use Rattle.spill_parts.specs.Parts.{IsHeld};
-ghost use Rattle.spill_parts.specs.Join.{joined_rows, one_joined, Climbs, Rises, IsLooking, IsAdded};
+ghost use Rattle.spill_parts.specs.Join.{joined_rows, one_joined, Climbs, Rises, IsLooking, IsAdded, AddsAtMostOne};
 
 use crate::lookup::{Keyed, Lookup};
 use crate::part::Part;
@@ -47,7 +47,15 @@ pub fn join<R: Keyed, N: Keyed, O: JoinOf<R, N>, P: Spill, L: Ledger>(
     ensures same_faults { OnOk result ((P.state spill.new).faults ≡ (P.state spill.old).faults) }
 
     ensures failed { OnErr result (CountsOne (P.state spill.old).faults (P.state spill.new).faults) }
+    ensures at_most_one { OnErr result (AddsAtMostOne (P.state spill.old) (P.state spill.new)) }
 
+    // The store becomes overrun only where the rows that are joined pass the limit, and where it does not tell its
+    // bytes only where a row for each of `refs` would.
+    ensures within_joined { (P.state spill.old).tells ≡ true → O.kind.width
+        * length (joined_rows R.key_of N.key_of O.join_of nodes.now.rows refs.now.rows) ≤ part_limit
+        → (P.state spill.new).is_overrun ≡ (P.state spill.old).is_overrun }
+    ensures within { O.kind.width * length refs.now.rows ≤ part_limit
+        → (P.state spill.new).is_overrun ≡ (P.state spill.old).is_overrun }
     ensures steps { steps.new ≤ steps.old + R.kind.width * length refs.now.rows + N.kind.width * length nodes.now.rows }
     ensures same { SameStore (P.state spill.old) (P.state spill.new) }
     ensures counts { (P.state spill.old).faults ≤ (P.state spill.new).faults }
@@ -78,6 +86,13 @@ fn join_row<R: Keyed, N: Keyed, O: JoinOf<R, N>, P: Spill, L: Ledger>(
     ensures rows { OnOk result ((P.state spill.old).tells ≡ true
         → out.new.rows ≡ out.old.rows
         ++ one_joined O.join_of row.now (find (λ n. N.key_of n == R.key_of row.now) lookup.old.reading.source.rows)) }
+    ensures few { OnOk result (length out.new.rows ≤ length out.old.rows + 1) }
+    ensures fits_joined { (P.state spill.old).tells ≡ true
+        → O.kind.width * length out.old.rows + O.kind.width
+        * length (one_joined O.join_of row.now (find (λ n. N.key_of n == R.key_of row.now) lookup.old.reading.source.rows))
+        ≤ part_limit → (P.state spill.new).is_overrun ≡ (P.state spill.old).is_overrun }
+    ensures fits { O.kind.width * length out.old.rows + O.kind.width ≤ part_limit
+        → (P.state spill.new).is_overrun ≡ (P.state spill.old).is_overrun }
     ensures part { out.new.part ≡ out.old.part }
     ensures out { OnOk result (IsHeld O.kind out.new (P.state spill.new)) }
     ensures looking { OnOk result (IsLooking N.kind N.key_of lookup.new page.new (P.state spill.new)) }
@@ -108,6 +123,8 @@ fn put_joined<R: Keyed, N: Keyed, O: JoinOf<R, N>, P: Spill>(
     requires started { (P.state spill.old).is_started ≡ true }
     requires out { IsHeld O.kind out.old (P.state spill.old) }
     ensures rows { OnOk result (out.new.rows ≡ out.old.rows ++ one_joined O.join_of row.now found) }
+    ensures within { O.kind.width * length out.old.rows + O.kind.width * length (one_joined O.join_of row.now found)
+        ≤ part_limit → (P.state spill.new).is_overrun ≡ (P.state spill.old).is_overrun }
     ensures part { out.new.part ≡ out.old.part }
     ensures out { OnOk result (IsHeld O.kind out.new (P.state spill.new)) }
     ensures same_faults { OnOk result ((P.state spill.new).faults ≡ (P.state spill.old).faults) }
@@ -120,3 +137,6 @@ fn put_joined<R: Keyed, N: Keyed, O: JoinOf<R, N>, P: Spill>(
         None => Ok(()),
     }
 }
+
+#[cfg(test)]
+mod tests;

@@ -83,7 +83,8 @@ impl<K: RowKind> Part<K> {
 
     // The same part, for who reads it.
     pub(crate) fn same(&self) -> Part<K>
-        ensures { result ≡ self.now }
+        ensures is { result ≡ self.now }
+        ensures small { K.kind.width * length self.now.rows ≤ part_limit }
     {
         Part {
             part: self.part,

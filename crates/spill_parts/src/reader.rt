@@ -4,7 +4,7 @@ ghost use Rattle.std.specs.Prelude.{◌≡◌, ◌⊎◌, ℕ, ◌+◌, ◌++◌
 ghost use Rattle.std.specs.Prelude.{take, drop, Some, None, Ok, IfOk, OnOk, OnErr};
 ghost use Rattle.std.specs.List.{AllByRecursion};
 ghost use Rattle.mf_edge.specs.Device.{CountsOne};
-ghost use Rattle.mf_edge.specs.Spill.{SpillState, SameParts, HasBytes, stretch};
+ghost use Rattle.mf_edge.specs.Spill.{SpillState, SameParts, HasBytes, stretch, part_limit};
 ghost use Rattle.mf_rows.specs.RowKinds.{IsOf, bytes_of, rows_bytes};
 ghost use Rattle.spill_parts.specs.Parts.{PageBytes, IsHeld, IsReading, GivesNext};
 
@@ -231,6 +231,7 @@ impl<K: RowKind> Reader<K> {
         ensures left { result.left ≡ part.now.rows }
         ensures source { result.source ≡ part.now }
         ensures none_loaded { result.loaded ≡ 0 }
+        ensures small { K.kind.width * length part.now.rows ≤ part_limit }
         ensures reading { (page : PageBytes) (s : SpillState) → IsHeld K.kind part.now s
             → IsReading K.kind result page s }
     {

@@ -2,9 +2,9 @@
 
 ghost use Rattle.std.specs.Prelude.{◌≡◌, ◌≢◌, ◌+◌, ◌*◌, ◌<◌, ◌≤◌, true, ◌++◌, length, IfOk, OnOk, OnErr};
 ghost use Rattle.mf_edge.specs.Device.{CountsOne};
-ghost use Rattle.mf_edge.specs.Spill.{SameStore, TouchesOnly, most_parts};
+ghost use Rattle.mf_edge.specs.Spill.{SameStore, TouchesOnly, most_parts, part_limit};
 ghost use Rattle.spill_parts.specs.Parts.{IsHeld, IsReading};
-ghost use Rattle.spill_parts.specs.Join.{IsAdded};
+ghost use Rattle.spill_parts.specs.Join.{IsAdded, AddsAtMostOne};
 
 use crate::part::Part;
 use crate::reader::{Page, Reader};
@@ -29,7 +29,10 @@ pub fn copy<K: RowKind, P: Spill, L: Ledger>(
     ensures failed { OnErr result (CountsOne (P.state spill.old).faults (P.state spill.new).faults) }
     ensures steps { steps.new ≤ steps.old + K.kind.width * length from.now.rows }
     ensures added { IfOk result (λ to. IsAdded to.part (P.state spill.old) (P.state spill.new)) }
+    ensures at_most_one { OnErr result (AddsAtMostOne (P.state spill.old) (P.state spill.new)) }
     ensures same { SameStore (P.state spill.old) (P.state spill.new) }
+    ensures same_overrun { (P.state spill.new).is_overrun ≡ (P.state spill.old).is_overrun }
+    ensures counts { (P.state spill.old).faults ≤ (P.state spill.new).faults }
 {
     let mut to = Writer::<K>::make(spill)?;
     let mut reader = Reader::start(from);
@@ -50,6 +53,7 @@ fn copy_rest<K: RowKind, P: Spill, L: Ledger>(
     requires reading { IsReading K.kind reader.old page.old (P.state spill.old) }
     requires held { IsHeld K.kind to.old (P.state spill.old) }
     requires within { K.kind.width * reader.old.loaded ≤ K.kind.width * length reader.old.source.rows }
+    requires small { K.kind.width * length to.old.rows + K.kind.width * length reader.old.left ≤ part_limit }
     ensures rows { OnOk result ((P.state spill.old).tells ≡ true → to.new.rows ≡ to.old.rows ++ reader.old.left) }
     ensures held { OnOk result (IsHeld K.kind to.new (P.state spill.new)) }
     ensures steps { steps.new + K.kind.width * reader.old.loaded ≤ steps.old + K.kind.width * length reader.old.source.rows }
@@ -57,6 +61,7 @@ fn copy_rest<K: RowKind, P: Spill, L: Ledger>(
     ensures failed { OnErr result (CountsOne (P.state spill.old).faults (P.state spill.new).faults) }
     ensures part { to.new.part ≡ to.old.part }
     ensures only { TouchesOnly to.old.part (P.state spill.old) (P.state spill.new) }
+    ensures same_overrun { (P.state spill.new).is_overrun ≡ (P.state spill.old).is_overrun }
     ensures counts { (P.state spill.old).faults ≤ (P.state spill.new).faults }
 {
     while let Some(row) = reader.next(spill, page, steps)? {

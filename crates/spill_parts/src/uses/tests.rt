@@ -1,12 +1,11 @@
 //! Parts of few and of many rows through a page of three.
 
-ghost use Rattle.std.specs.Prelude.{◌≡◌, ◌+◌, ◌<◌, ◌≤◌, true, length, IfOk, codes};
-ghost use Rattle.mf_edge.specs.Spill.{IsNameOf, most_parts};
-ghost use Rattle.mf_rows.specs.Kinds.{node_kind};
-ghost use Rattle.spill_parts.specs.Parts.{IsHeld};
+ghost use Rattle.std.specs.Prelude.{◌≡◌, ◌<◌, ◌≤◌, length, IfOk, codes};
+ghost use Rattle.mf_edge.specs.Spill.{IsNameOf};
 
 use super::*;
 use crate::part::order_part;
+use crate::test_parts::{rows_of, written};
 use mf_edge::MemSpill;
 use mf_rows::kinds::NodeRow;
 use std::alloc::{AllocError, Global};
@@ -16,45 +15,6 @@ use std::test::Fail;
 
 fn row(node: u64, lat: i32) -> NodeRow {
     NodeRow { node, lat, lon: -1 }
-}
-
-// A part of these rows, in this order.
-fn written<P: Spill>(spill: &mut P, rows: &[NodeRow]) -> Result<Part<NodeRow>, Failed>
-    requires started { (P.state spill.old).is_started ≡ true }
-    requires few { (P.state spill.old).count < most_parts }
-    ensures started { (P.state spill.new).is_started ≡ true }
-    ensures count { (P.state spill.new).count ≤ (P.state spill.old).count + 1 }
-    ensures held { IfOk result (λ part. IsHeld node_kind part (P.state spill.new)) }
-{
-    let mut writer = Writer::make(spill)?;
-    for row in rows {
-        writer.put(spill, row)?;
-    }
-    Ok(writer.finish())
-}
-
-// Puts the rows of a part, in its order, to the front of a room, and answers how many there are. There is room for all.
-fn rows_of<P: Spill, L: Ledger>(
-    spill: &mut P,
-    part: &Part<NodeRow>,
-    page: &mut Page,
-    steps: &mut Steps<L>,
-    room: &mut [NodeRow],
-) -> Result<usize, Failed>
-    requires started { (P.state spill.old).is_started ≡ true }
-    requires held { IsHeld node_kind part.now (P.state spill.old) }
-    ensures most { IfOk result (λ n. n ≤ length room.new) }
-{
-    let mut reader = Reader::start(part);
-    let mut n = 0;
-    while let Some(row) = reader.next(spill, page, steps)? {
-        if n == room.len() {
-            return Err(Failed);
-        }
-        room[n] = row;
-        n += 1;
-    }
-    Ok(n)
 }
 
 // The rows as they are read after they were written, ordered and copied.
@@ -119,7 +79,9 @@ fn rows_through_pages_of_three(rt: HostRuntime) -> Result<(), Fail> {
     assert!(rt; are_read_as(rt.alloc(), &many[1..2], &many[1..2])?);
     assert!(rt; are_read_as(rt.alloc(), &[row(2, 0), row(1, 0)], &[row(1, 0), row(2, 0)])?);
     assert!(rt; are_read_as(rt.alloc(), &many[4..7], &[row(0, 1), row(7, 2), row(7, -2)])?);
-    assert!(rt; are_read_as(rt.alloc(), &[row(7, 0); 4], &[row(7, 0); 4])?);
+    let four_ordered = [row(7, 2), row(7, -1), row(1 << 40, 0), row(u64::MAX, 5)];
+    assert!(rt; are_read_as(rt.alloc(), &many[..4], &four_ordered)?);
+    assert!(rt; are_read_as(rt.alloc(), &[row(7, 0); 9], &[row(7, 0); 9])?);
     assert!(rt; are_read_as(rt.alloc(), &many, &many_ordered)?);
     Ok(())
 }

@@ -1,19 +1,23 @@
-use Rattle.std.proofs.Common.{◌≡◌, ◌≢◌, ℕ, ◌*◌, ◌≤◌, ◌++◌, ◌∷◌, List, length, sym, ap, subst, ◌∙◌, arith, Option, Some}
+use Rattle.std.proofs.Common.{◌≡◌, ◌≢◌, ◌*◌, ◌≤◌, ◌++◌, List, length, sym, ap, subst, ◌∙◌, arith, Option, Some}
+use Rattle.std.proofs.Common.{Result, Ok, Err}
 use Rattle.std.proofs.Common.{append_assoc}
 use Rattle.std.proofs.lemmas.List.{append-nil}
-use Rattle.std.specs.Prelude.{◌==◌, find}
-use Rattle.std.specs.List.{AllByRecursion}
+use Rattle.std.specs.Prelude.{◌==◌, find, OnErr}
+use Rattle.mf_edge.specs.Spill.{SpillState, part_limit}
 use Rattle.spill_parts.specs.Parts.{Part, GivesNext}
 use Rattle.spill_parts.specs.Join.{joined_rows, one_joined, Climbs}
 use Rattle.spill_parts.proofs.Kept.{reading_same, reading_kept, there_same, same_store, same_trans}
-use Rattle.spill_parts.proofs.Added.{added_begun, added_read, added_written, added_now}
+use Rattle.spill_parts.proofs.Added.{added_begun, added_read, added_written, added_now, one_more}
 use Rattle.spill_parts.proofs.Looked.{looking_same, from_zero, not_below, joined_first, joined_none}
 use Rattle.spill_parts.proofs.Looked.{told_row, nothing_left}
+use Rattle.spill_parts.proofs.Joined.{one_of_left}
+use Rattle.spill_parts.proofs.Fitting.{joined_fits}
 use Rattle.spill_parts.proofs.merge.join.Goals as goal
 
 pub loop-row-init : goal.loop-row-init
 loop-row-init g c =
     let begun = c.in_ok-out.ensures.made in
+    let overrun = ap (λ (s : SpillState). s.is_overrun) c.start.ensures.same ∙ c.make.ensures.same_overrun in
     record {
       same = same_store c.make.ensures.same c.start.ensures.same;
       same_faults = c.in_ok-lookup.ensures.same_faults ∙ c.in_ok-out.ensures.same_faults;
@@ -33,6 +37,9 @@ loop-row-init g c =
       rows = λ told. (λ i. begun.empty i
           ++ joined_rows g.R.Keyed.key_of g.N.Keyed.key_of g.O.JoinOf.join_of c.args.nodes.now.rows
           (c.start-reader.ensures.left i));
+      few = omega (arith, ap length begun.empty, ap length c.start-reader.ensures.left);
+      within_joined = λ _ _. overrun;
+      within = λ _. overrun;
       refs = c.start-reader.ensures.source;
       refs_within = rw c.start-reader.ensures.none_loaded (omega arith);
       nodes_within = subst (λ (p : Part g.row.N.Denot). g.N.RowKind.kind.width * c.in_ok-lookup.lookup.reading.loaded
@@ -66,6 +73,8 @@ loop-row-preserved g c =
     let read = same_store I.same c.in_ok-row.ensures.same in
     let one = one_joined g.O.JoinOf.join_of c.in-Some.row
     (find (λ n. node_key n == ref_key c.in-Some.row) c.args.nodes.now.rows) in
+    let width = g.O.RowKind.kind.width in
+    let overrun = ap (λ (s : SpillState). s.is_overrun) c.in_ok-row.ensures.same in
     record {
       same = same_trans read c.in_ok-join_row.ensures.only.same;
       same_faults = c.in_ok-join_row.ensures.same_faults ∙ c.in_ok-row.ensures.same_faults ∙ I.same_faults;
@@ -97,6 +106,18 @@ loop-row-preserved g c =
           c.next.new.self.left))
           ∙ (λ i. out.rows ++ J (sym first i))
           ∙ I.rows told;
+      few = omega (arith, I.few, ap length given.1, c.in_ok-join_row.ensures.few);
+      within_joined = λ told fits. c.in_ok-join_row.ensures.fits_joined (read.tells ∙ told)
+          (joined_fits ref_key node_key g.O.JoinOf.join_of width part_limit c.loop-row.lookup.reading.source
+          c.args.nodes.now I.nodes (g.P.Spill.state c.loop-row.spill).tells c.loop-row.reader.left c.in-Some.row
+          c.next.new.self.left given (I.same.tells ∙ told) c.args.refs.now.rows out.rows (I.rows told) fits)
+          ∙ overrun
+          ∙ I.within_joined told fits;
+      within = λ fits. c.in_ok-join_row.ensures.fits
+          (one_of_left width (length out.rows) (length c.next.new.self.left) (length c.args.refs.now.rows) part_limit
+          (omega (arith, I.few, ap length given.1)) fits)
+          ∙ overrun
+          ∙ I.within fits;
       refs = refs_source;
       refs_within = c.in_ok-row.ensures.within;
       nodes_within = c.in_ok-join_row.ensures.within;
@@ -117,3 +138,27 @@ returns-clause-rows g c told =
     (sym (joined_none g.R.Keyed.key_of g.N.Keyed.key_of g.O.JoinOf.join_of c.args.nodes.now.rows))
     ∙ (λ i. out.rows ++ J (sym none i))
     ∙ I.rows told
+
+always : {T E A : Type 0} (answer : Result T E) → A → OnErr answer A
+always (Ok _) is = tt
+always (Err _) is = is
+
+pub returns-in_err-join_row-clause-at_most_one : goal.returns-in_err-join_row-clause-at_most_one
+returns-in_err-join_row-clause-at_most_one g c =
+    always c.from_residual-in_err-join_row.result
+    (one_more (added_written (added_read c.loop-row.invariant.added c.next.ensures.same) c.join_row.ensures.only))
+
+pub returns-in_err-join_row-clause-within_joined : goal.returns-in_err-join_row-clause-within_joined
+returns-in_err-join_row-clause-within_joined g c told fits =
+    let I = c.loop-row.invariant in
+    let given : GivesNext (g.P.Spill.state c.loop-row.spill).tells c.loop-row.reader.left (Some c.in-Some.row)
+    c.next.new.self.left
+    = subst (λ (o : Option g.row.R.Denot). GivesNext (g.P.Spill.state c.loop-row.spill).tells c.loop-row.reader.left o
+    c.next.new.self.left) c.in-Some.is c.in_ok-row.ensures.next in
+    c.join_row.ensures.fits_joined ((same_store I.same c.next.ensures.same).tells ∙ told)
+    (joined_fits g.R.Keyed.key_of g.N.Keyed.key_of g.O.JoinOf.join_of g.O.RowKind.kind.width part_limit
+    c.loop-row.lookup.reading.source c.args.nodes.now I.nodes (g.P.Spill.state c.loop-row.spill).tells
+    c.loop-row.reader.left c.in-Some.row c.next.new.self.left given (I.same.tells ∙ told) c.args.refs.now.rows
+    c.loop-row.out.rows (I.rows told) fits)
+    ∙ ap (λ (s : SpillState). s.is_overrun) c.next.ensures.same
+    ∙ I.within_joined told fits

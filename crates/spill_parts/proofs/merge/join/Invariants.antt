@@ -1,6 +1,6 @@
 use Rattle.std.proofs.Common.{◌≡◌, ◌≢◌, ◌+◌, ◌*◌, ◌≤◌, true, ◌++◌, length}
 use Rattle.std.specs.List.{AllByRecursion}
-use Rattle.mf_edge.specs.Spill.{SameStore}
+use Rattle.mf_edge.specs.Spill.{SameStore, part_limit}
 use Rattle.spill_parts.specs.Parts.{IsHeld, IsReading}
 use Rattle.spill_parts.specs.Join.{joined_rows, Climbs, IsLooking, IsAdded}
 use Rattle.spill_parts.proofs.merge.join.Given as goal
@@ -22,6 +22,12 @@ invariant-loop-row g l = record {
   rows : (g.P.Spill.state l.fn.spill).tells ≡ true
       → l.out.rows ++ joined_rows g.R.Keyed.key_of g.N.Keyed.key_of g.O.JoinOf.join_of l.nodes.rows l.reader.left
       ≡ joined_rows g.R.Keyed.key_of g.N.Keyed.key_of g.O.JoinOf.join_of l.nodes.rows l.refs.rows;
+  few : length l.out.rows + length l.reader.left ≤ length l.refs.rows;
+  within_joined : (g.P.Spill.state l.fn.spill).tells ≡ true → g.O.RowKind.kind.width
+      * length (joined_rows g.R.Keyed.key_of g.N.Keyed.key_of g.O.JoinOf.join_of l.nodes.rows l.refs.rows)
+      ≤ part_limit → (g.P.Spill.state l.spill).is_overrun ≡ (g.P.Spill.state l.fn.spill).is_overrun;
+  within : g.O.RowKind.kind.width * length l.refs.rows ≤ part_limit
+      → (g.P.Spill.state l.spill).is_overrun ≡ (g.P.Spill.state l.fn.spill).is_overrun;
   refs : l.reader.source ≡ l.refs;
   refs_within : g.R.RowKind.kind.width * l.reader.loaded ≤ g.R.RowKind.kind.width * length l.reader.source.rows;
   nodes_within : g.N.RowKind.kind.width * l.lookup.reading.loaded

@@ -1,5 +1,5 @@
 use Rattle.std.proofs.Common.{◌≡◌, ◌+◌, ◌*◌, ◌≤◌, true, ◌++◌, length}
-use Rattle.mf_edge.specs.Spill.{TouchesOnly}
+use Rattle.mf_edge.specs.Spill.{TouchesOnly, part_limit}
 use Rattle.spill_parts.specs.Parts.{IsHeld, IsReading}
 use Rattle.spill_parts.proofs.uses.copy_rest.Given as goal
 
@@ -14,6 +14,8 @@ invariant-loop-row g l = record {
   rows : (g.P.Spill.state l.fn.spill).tells ≡ true → l.to.rows ++ l.reader.left ≡ l.fn.to.rows ++ l.fn.reader.left;
   steps : l.steps + g.K.RowKind.kind.width * l.fn.reader.loaded ≡ l.fn.steps + g.K.RowKind.kind.width * l.reader.loaded;
   within : g.K.RowKind.kind.width * l.reader.loaded ≤ g.K.RowKind.kind.width * length l.reader.source.rows;
+  small : g.K.RowKind.kind.width * length l.to.rows + g.K.RowKind.kind.width * length l.reader.left ≤ part_limit;
+  same_overrun : (g.P.Spill.state l.spill).is_overrun ≡ (g.P.Spill.state l.fn.spill).is_overrun;
 }
 
 abbrev pub decreases-loop-row : goal.decreases-loop-row

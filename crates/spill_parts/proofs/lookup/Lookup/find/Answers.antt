@@ -1,4 +1,4 @@
-use Rattle.std.proofs.Common.{rules, ◌≡◌, ◌*◌, ◌≤◌, length, ap, sym, subst, ◌∙◌, refl, arith, mul-le-mul_left}
+use Rattle.std.proofs.Common.{rules, ◌≡◌, ◌≤◌, length, ap, sym, subst, ◌∙◌, refl, arith, mul-le-mul_left}
 use Rattle.std.specs.Prelude.{◌==◌, find}
 use Rattle.mf_edge.specs.Spill.{SpillState}
 use Rattle.spill_parts.specs.Parts.{Part, Reading}

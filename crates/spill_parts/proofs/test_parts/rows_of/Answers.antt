@@ -1,5 +1,5 @@
 use Rattle.std.proofs.Common.{arith}
-use Rattle.spill_parts.proofs.uses.tests.rows_of.Goals as goal
+use Rattle.spill_parts.proofs.test_parts.rows_of.Goals as goal
 
 pub loop-row-init : goal.loop-row-init
 loop-row-init g c = record {

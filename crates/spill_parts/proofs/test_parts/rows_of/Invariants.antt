@@ -1,12 +1,11 @@
 use Rattle.std.proofs.Common.{◌≡◌, ◌≤◌, true, length}
-use Rattle.mf_rows.specs.Kinds.{node_kind}
 use Rattle.spill_parts.specs.Parts.{IsReading}
-use Rattle.spill_parts.proofs.uses.tests.rows_of.Given as goal
+use Rattle.spill_parts.proofs.test_parts.rows_of.Given as goal
 
 abbrev pub invariant-loop-row : goal.invariant-loop-row
 invariant-loop-row g l = record {
   started : (g.P.Spill.state l.spill).is_started ≡ true;
-  reading : IsReading node_kind l.reader l.page (g.P.Spill.state l.spill);
+  reading : IsReading g.K.RowKind.kind l.reader l.page (g.P.Spill.state l.spill);
   few : l.n ≤ length l.room;
 }
 
