@@ -1,12 +1,12 @@
 -- What is tested of a record: its head and texts, and the sides of its rectangle.
 use Rattle.std.proofs.Common.{◌≡◌, ℕ, ◌+◌, ◌-◌, ◌^◌, ◌≤◌, ◌<◌, List, [], ◌∷◌, map, refl, sym, ap, ◌∙◌, subst, arith, length}
-use Rattle.std.proofs.Common.{Option, Some, None, Bool, true, false, inl, inr, ℤ, pos, negsuc, ◌⊎◌, ◌++◌, drop, get_or}
-use Rattle.std.specs.Prelude.{IfSome, IsTrue, ◌↔◌, ◌&&◌, ◌||◌, not, cond, nat_le, nat_lt, int_le, ◌≤ℤ◌, fold}
-use Rattle.std.specs.Prelude.{flat_map, max}
+use Rattle.std.proofs.Common.{Option, Some, None, Bool, true, false, inl, inr, ℤ, pos, negsuc, ◌++◌, drop, get_or}
+use Rattle.std.specs.Prelude.{IfSome, IsTrue, ◌&&◌, nat_lt, int_le, ◌≤ℤ◌, fold}
+use Rattle.std.specs.Prelude.{flat_map}
 use Rattle.std.specs.Prelude.{FitsSigned, unwrap_or}
-use Rattle.std.specs.Int.{w32, int_min, int_max}
+use Rattle.std.specs.Int.{w32}
 use Rattle.std.specs.List.{AllByRecursion, enumerate_from}
-use Rattle.std.proofs.lemmas.Bool.{cases_Bool, and_parts, and_from, le-leb, leb-true, lt-ltb, ltb-true, true≢false}
+use Rattle.std.proofs.lemmas.Bool.{cases_Bool, and_parts, and_from, le-leb, leb-true, lt-ltb, ltb-true}
 use Rattle.std.proofs.lemmas.Int.{ints, clamps}
 use Rattle.std.proofs.lemmas.List.{drop_more, drop_all}
 use Rattle.mf_base.specs.Texts.{Text}
@@ -31,7 +31,6 @@ use Rattle.mf_rows.specs.Shapes.{shape_told, feature_told}
 use Rattle.mf_rows.specs.declared.head.TextSlot.{TextSlot}
 use Rattle.mf_rows.specs.declared.head.TextSlot.TheVariants.{Name, House, Reference, Tag}
 use Rattle.tile_body.specs.Members.{IsSpelled}
-use Rattle.tile_body.specs.Tags.{tags_told}
 use Rattle.tile_body.specs.Tested.{is_short, has_short_text, are_short_from, are_kept_short, may_be_spelled}
 use Rattle.tile_body.specs.Tested.{has_near_sides}
 

@@ -1,16 +1,14 @@
 -- What is put one after another of a POI, and of a way behind its data size.
-use Rattle.std.proofs.Common.{◌≡◌, ℕ, suc, ◌+◌, ◌≤◌, List, [], ◌∷◌, ◌++◌, length, refl, sym, ap, ◌∙◌, arith}
-use Rattle.std.proofs.Common.{length-append, append_assoc, Option, Some, None, Bool, true, false, subst}
-use Rattle.std.specs.Prelude.{ℤ, is_some, option_map, nat_lt, if◌then◌else◌, flat_map}
-use Rattle.mf_base.specs.Buffer.{Buffer, AppendsTo, HasRoom}
+use Rattle.std.proofs.Common.{◌≡◌, ℕ, ◌+◌, List, [], ◌∷◌, ◌++◌, length, refl, sym, ap, ◌∙◌, arith}
+use Rattle.std.proofs.Common.{length-append, Option, Some, None, subst}
+use Rattle.std.specs.Prelude.{is_some, option_map, nat_lt, flat_map}
+use Rattle.mf_base.specs.Buffer.{Buffer, AppendsTo}
 use Rattle.mf_base.specs.Spelling.{vbe_unsigned, vbe_signed, string, big_endian}
 use Rattle.mf_base.specs.declared.place.Place.{Place}
 use Rattle.mf_base.specs.declared.kind.EntityKind.{EntityKind}
 use Rattle.mf_base.specs.declared.tile.TilePlace.{TilePlace}
 use Rattle.mf_base.proofs.ByteLaws.{length-big_endian}
 use Rattle.feature_model.specs.Points.{Point, Part}
-use Rattle.feature_model.specs.Features.{Block}
-use Rattle.map_model.specs.Bitmap.{sub_tile_bits}
 use Rattle.map_model.specs.Labels.{label_place}
 use Rattle.map_model.specs.Rectangles.{places_of_shape, first_place}
 use Rattle.map_model.specs.Layout.{step, step_bytes, optional, flag, tag_bytes, poi_flags, poi_fields_bytes}
@@ -24,7 +22,7 @@ use Rattle.way_delta.specs.Rings.{blocks_told, blocks_bytes}
 use Rattle.way_delta.proofs.Writing.{puts-two}
 use Rattle.tile_body.specs.declared.way.Drawn.{Drawn}
 use Rattle.tile_body.specs.Tags.{tags_told}
-use Rattle.tile_body.specs.Ways.{fields_told, way_told, body_told, label_step, block_count_bytes, flags_of, body_of}
+use Rattle.tile_body.specs.Ways.{fields_told, way_told, body_told, block_count_bytes, flags_of, body_of}
 use Rattle.tile_body.specs.Ways.{IsDrawn}
 
 -- a buffer once a part was put

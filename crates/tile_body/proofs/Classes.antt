@@ -1,22 +1,16 @@
 -- Records one after another: what is put or counted of them by class.
-use Rattle.std.proofs.Common.{◌≡◌, ℕ, zero, suc, ◌+◌, ◌≤◌, ◌<◌, ◌^◌, List, [], ◌∷◌, ◌++◌, length, map, refl, sym, ap}
-use Rattle.std.proofs.Common.{◌∙◌, arith, Option, Some, None, Bool, true, false, drop, length-append, get_or, subst}
-use Rattle.std.specs.Prelude.{filter, flat_map, slice_get, cond, count_by, ◌==◌, if◌then◌else◌, not}
+use Rattle.std.proofs.Common.{◌≡◌, ℕ, zero, suc, ◌+◌, ◌≤◌, List, [], ◌∷◌, ◌++◌, length, refl, sym, ap}
+use Rattle.std.proofs.Common.{◌∙◌, arith, Some, Bool, true, false, drop, length-append, subst}
+use Rattle.std.specs.Prelude.{filter, flat_map, slice_get, cond, not}
 use Rattle.std.specs.List.{AllByRecursion}
 use Rattle.std.proofs.lemmas.List.{drop_more, drop_all}
-use Rattle.std.proofs.lemmas.Option.{slice_get_within, get_or_from_slice_get, none-some, same_Some}
+use Rattle.std.proofs.lemmas.Option.{slice_get_within, get_or_from_slice_get}
 use Rattle.mf_base.specs.Buffer.{Buffer, AppendsTo, HasRoom}
-use Rattle.mf_base.specs.declared.kind.EntityKind.{EntityKind}
-use Rattle.mf_base.specs.declared.tile.Interval.{Interval}
 use Rattle.feature_model.specs.Features.{Feature}
 use Rattle.map_model.specs.Members.{is_node_kind, is_poi, is_way}
-use Rattle.map_model.specs.Intervals.{raised_zoom}
-use Rattle.mf_rows.specs.Desks.{units_in}
 use Rattle.mf_rows.specs.Records.{Record, candidate_told}
-use Rattle.mf_rows.specs.RecordUnits.{unit_count, parts_count}
 use Rattle.mf_rows.specs.Shapes.{feature_told}
-use Rattle.tile_body.specs.Members.{IsMember}
-use Rattle.tile_body.specs.Tiles.{features_told, class_bytes, part_of, count_at}
+use Rattle.tile_body.specs.Tiles.{features_told, class_bytes, part_of}
 use Rattle.way_delta.proofs.Writing.{Completes, completes-part, completes-all, completes-front}
 
 -- ---- the record of a place

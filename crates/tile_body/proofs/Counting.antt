@@ -1,10 +1,10 @@
 -- The zoom table, while members are counted and while it is put.
-use Rattle.std.proofs.Common.{◌≡◌, ℕ, zero, suc, ◌+◌, ◌-◌, ◌≤◌, ◌<◌, ◌^◌, List, [], ◌∷◌, ◌++◌, length, map, refl, sym}
+use Rattle.std.proofs.Common.{◌≡◌, ℕ, zero, suc, ◌+◌, ◌-◌, ◌≤◌, ◌<◌, ◌^◌, List, [], ◌∷◌, ◌++◌, length, refl, sym}
 use Rattle.std.proofs.Common.{ap}
-use Rattle.std.proofs.Common.{◌∙◌, arith, Some, Bool, true, false, drop, length-append, get_or, inl, inr}
+use Rattle.std.proofs.Common.{◌∙◌, arith, Some, Bool, true, false, drop, get_or, inl, inr}
 use Rattle.std.proofs.Common.{append_assoc, subst}
-use Rattle.std.specs.Prelude.{filter, flat_map, slice_get, cond, count_by, ◌==◌, if◌then◌else◌, slice_set}
-use Rattle.std.specs.List.{AllByRecursion, range_with_len}
+use Rattle.std.specs.Prelude.{filter, flat_map, slice_get, cond, ◌==◌, slice_set}
+use Rattle.std.specs.List.{range_with_len}
 use Rattle.std.proofs.lemmas.Bool.{cases_eq, eq-eqb, ne_eqb}
 use Rattle.std.proofs.lemmas.List.{drop_all, get_or-set_same, get_or-set_other, length-set}
 use Rattle.mf_base.specs.Buffer.{Buffer, AppendsTo, HasRoom}
@@ -13,10 +13,10 @@ use Rattle.mf_base.specs.declared.tile.Interval.{Interval}
 use Rattle.feature_model.specs.Features.{Feature}
 use Rattle.feature_model.proofs.Totals.{total, count-total}
 use Rattle.map_model.specs.Members.{is_poi, is_way}
-use Rattle.map_model.specs.Intervals.{raised_zoom, zooms}
+use Rattle.map_model.specs.Intervals.{raised_zoom}
 use Rattle.mf_rows.specs.Records.{Record, candidate_told}
 use Rattle.mf_rows.specs.Shapes.{feature_told}
-use Rattle.tile_body.specs.Tables.{AreLow, AreCounts, AreFew, one_more, counted_in, level_bytes, levels_bytes}
+use Rattle.tile_body.specs.Tables.{AreCounts, AreFew, one_more, counted_in, level_bytes, levels_bytes}
 use Rattle.tile_body.specs.Tiles.{features_told, count_at, counts_at, table_bytes}
 use Rattle.tile_body.proofs.Classes.{drop-next}
 use Rattle.way_delta.proofs.Writing.{Completes, completes-part, completes-more, completes-all, completes-front}

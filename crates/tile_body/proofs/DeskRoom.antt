@@ -1,24 +1,22 @@
 -- The room that a tile takes: at most 16 bytes for each unit of a desk, and 246, so that its output holds it.
-use Rattle.std.proofs.Common.{◌≡◌, ℕ, zero, suc, ◌+◌, ◌-◌, ◌*◌, ◌/◌, ◌^◌, ◌≤◌, ◌<◌, List, [], ◌∷◌, ◌++◌, length, map}
+use Rattle.std.proofs.Common.{◌≡◌, ℕ, zero, suc, ◌+◌, ◌-◌, ◌*◌, ◌^◌, ◌≤◌, ◌<◌, List, [], ◌∷◌, ◌++◌, length, map}
 use Rattle.std.proofs.Common.{subst}
-use Rattle.std.proofs.Common.{refl, sym, ap, ◌∙◌, arith, length-append, Option, Some, None, Bool, true, false}
-use Rattle.std.specs.Prelude.{ℤ, nat_abs, cond, not, filter, flat_map, count_by, IfSome, IsTrue, ◌==◌}
+use Rattle.std.proofs.Common.{refl, ap, arith, length-append, Option, Some, None, Bool, true, false}
+use Rattle.std.specs.Prelude.{ℤ, cond, not, filter, flat_map, count_by, IfSome, IsTrue, ◌==◌}
 use Rattle.std.specs.List.{AllByRecursion, range_with_len}
 use Rattle.std.proofs.lemmas.List.{length-map}
 use Rattle.mf_base.specs.declared.place.Place.{Place}
 use Rattle.mf_base.specs.declared.tile.TilePlace.{TilePlace}
 use Rattle.mf_base.specs.Ranges.{is_signed_32}
 use Rattle.mf_base.specs.Spelling.{vbe_unsigned, vbe_signed}
-use Rattle.feature_model.specs.Descriptions.{text_size, kept_size}
 use Rattle.feature_model.specs.Features.{Feature, description_of}
-use Rattle.feature_model.specs.Proper.{ring_count, place_count}
 use Rattle.feature_model.proofs.TextSizes.{texts-by_parts}
 use Rattle.feature_model.proofs.Totals.{total, count-total}
 use Rattle.map_model.specs.Members.{is_poi, is_way, in_tile_order}
-use Rattle.map_model.specs.Intervals.{raised_zoom, zooms}
+use Rattle.map_model.specs.Intervals.{raised_zoom}
 use Rattle.map_model.specs.Bitmap.{sub_tile_bits}
 use Rattle.map_model.specs.Rectangles.{places_of, first_place}
-use Rattle.map_model.specs.Layout.{sized, step, optional, tag_bytes, poi_fields_bytes}
+use Rattle.map_model.specs.Layout.{sized, step, optional, poi_fields_bytes}
 use Rattle.map_model.specs.TileBytes.{poi_fields, poi_bytes, way_fields, way_bytes, tile_corner, tile_bytes, is_double}
 use Rattle.map_model.specs.TileBytes.{coordinate_size}
 use Rattle.map_model.specs.Labels.{label_place}

@@ -1,15 +1,13 @@
 -- The first ring of a way: its first place, and whether it is closed.
-use Rattle.std.proofs.Common.{◌≡◌, ◌≢◌, ℕ, suc, ◌+◌, List, [], ◌∷◌, ◌++◌, length, map, refl, sym, ap, ◌∙◌, Some, subst}
-use Rattle.std.specs.Prelude.{flat_map, slice_index_or, slice_get, drop, option_map}
-use Rattle.std.proofs.lemmas.Option.{none-some, same_Some}
+use Rattle.std.proofs.Common.{◌≡◌, ◌≢◌, ℕ, List, [], ◌∷◌, length, map, refl, sym, ap, ◌∙◌, Some, subst}
+use Rattle.std.specs.Prelude.{flat_map, slice_index_or, slice_get, drop}
 use Rattle.mf_base.specs.declared.place.Place.{Place}
 use Rattle.mf_base.specs.declared.kind.EntityKind.{EntityKind}
 use Rattle.mf_base.specs.declared.kind.Role.{Role}
-use Rattle.feature_model.specs.Inside.{Ring}
 use Rattle.feature_model.specs.Points.{Point, Part}
-use Rattle.feature_model.specs.Blocks.{places, is_outer, blocks_in}
+use Rattle.feature_model.specs.Blocks.{places, blocks_in}
 use Rattle.feature_model.specs.Features.{Block}
-use Rattle.map_model.specs.Rectangles.{rings_of, blocks_of_shape}
+use Rattle.map_model.specs.Rectangles.{rings_of}
 use Rattle.map_model.specs.Labels.{same_place, is_closed, first_ring_is_closed}
 use Rattle.map_model.specs.Layout.{first_of_blocks}
 use Rattle.mf_rows.specs.Records.{Record}

@@ -1,9 +1,8 @@
 -- What is tested of the order of two records.
-use Rattle.std.proofs.Common.{◌≡◌, ℕ, ◌≤◌, ◌<◌, ◌⊎◌, refl, sym, ap, ◌∙◌, subst, arith, Bool, true, false, inl, inr}
+use Rattle.std.proofs.Common.{◌≡◌, ℕ, ◌<◌, ◌⊎◌, refl, sym, ◌∙◌, subst, arith, Bool, true, false, inl, inr}
 use Rattle.std.specs.Prelude.{◌&&◌, ◌||◌, not, cond, ◌↔◌, IsTrue, IfSome, Option, Some}
-use Rattle.std.proofs.lemmas.Bool.{and_parts, and_from, le-leb, leb-true, true≢false}
+use Rattle.std.proofs.lemmas.Bool.{le-leb, leb-true, true≢false}
 use Rattle.mf_base.specs.declared.tile.Interval.{Interval}
-use Rattle.feature_model.specs.Features.{Feature}
 use Rattle.map_model.specs.Intervals.{raised_zoom}
 use Rattle.map_model.specs.Members.{is_node_kind, StandsBefore}
 use Rattle.mf_rows.specs.Records.{Record, candidate_told}

@@ -1,7 +1,7 @@
 -- What is drawn of a record: its rings and places are the units of its parts, and it has a shape of places of 32 bits.
-use Rattle.std.proofs.Common.{◌≡◌, ℕ, suc, ◌+◌, ◌≤◌, List, [], ◌∷◌, ◌++◌, length, map, refl, sym, ap, ◌∙◌, arith}
-use Rattle.std.proofs.Common.{Option, Some, None, Bool, true, false, subst}
-use Rattle.std.specs.Prelude.{flat_map, sum_by, IsTrue, nat_le, ◌&&◌}
+use Rattle.std.proofs.Common.{◌≡◌, suc, ◌+◌, ◌≤◌, List, [], ◌∷◌, ◌++◌, length, map, refl, sym, ap, ◌∙◌, arith}
+use Rattle.std.proofs.Common.{Option, Some, None, Bool, true, false}
+use Rattle.std.specs.Prelude.{flat_map, sum_by, IsTrue}
 use Rattle.std.specs.List.{list_all, AllByRecursion}
 use Rattle.std.proofs.lemmas.Bool.{le-leb}
 use Rattle.std.proofs.lemmas.List.{length-map}
@@ -13,7 +13,7 @@ use Rattle.feature_model.specs.Points.{Point, Part}
 use Rattle.feature_model.specs.Blocks.{places, is_outer, inner_before, blocks_in}
 use Rattle.feature_model.specs.Features.{Block, Shape, drawn_blocks}
 use Rattle.feature_model.specs.Proper.{is_ring, is_block, is_shape, ring_count, place_count, AllPlaces}
-use Rattle.feature_model.proofs.Totals.{total, total-append, total-map, total-flat_map, sum-total, total-same}
+use Rattle.feature_model.proofs.Totals.{total, total-map, total-flat_map, sum-total, total-same}
 use Rattle.map_model.specs.Rectangles.{blocks_of_shape, places_of_shape}
 use Rattle.map_model.specs.TileReading.{IsPlaceOf32Bits}
 use Rattle.map_model.proofs.HeaderOfMapping.{place-32}

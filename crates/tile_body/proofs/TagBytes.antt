@@ -6,7 +6,7 @@ use Rattle.std.specs.Prelude.{flat_map}
 use Rattle.std.specs.List.{enumerate_from}
 use Rattle.std.proofs.lemmas.List.{drop_more, drop_all}
 use Rattle.mf_base.specs.Buffer.{Buffer, AppendsTo, HasRoom}
-use Rattle.mf_base.specs.Spelling.{vbe_unsigned, string}
+use Rattle.mf_base.specs.Spelling.{vbe_unsigned}
 use Rattle.mf_base.specs.Texts.{Text}
 use Rattle.mf_base.specs.declared.kept.Kept.{Kept as KeptRead}
 use Rattle.feature_model.specs.Choice.{Kept}

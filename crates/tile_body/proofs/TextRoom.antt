@@ -1,7 +1,7 @@
 -- The texts of a record, slot by slot, have at most its bytes of texts.
-use Rattle.std.proofs.Common.{◌≡◌, ℕ, ◌+◌, ◌≤◌, ◌<◌, List, [], ◌∷◌, ◌++◌, length, refl, sym, ap, ◌∙◌, arith}
+use Rattle.std.proofs.Common.{◌≡◌, ℕ, ◌+◌, ◌≤◌, ◌<◌, List, [], ◌∷◌, length, refl, arith}
 use Rattle.std.proofs.Common.{length-append, Option, Some, None, Bool, true, false, inl, inr}
-use Rattle.std.specs.Prelude.{cond, find, option_map, unwrap_or, nat_eq, map}
+use Rattle.std.specs.Prelude.{cond, unwrap_or, map}
 use Rattle.std.specs.List.{enumerate_from}
 use Rattle.std.proofs.lemmas.Bool.{cases_eq, eq-eqb, ne_eqb}
 use Rattle.mf_base.specs.Texts.{Text}

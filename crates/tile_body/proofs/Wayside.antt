@@ -1,6 +1,6 @@
 -- What is told of a way beside its data blocks: its bits and its label.
-use Rattle.std.proofs.Common.{◌≡◌, ℕ, refl, sym, ap, ◌∙◌, Option, Some, None, Bool, true, false}
-use Rattle.std.specs.Prelude.{option_map, if◌then◌else◌, cond, ◌&&◌}
+use Rattle.std.proofs.Common.{◌≡◌, ℕ, refl, sym, ap, ◌∙◌, Some, None, Bool, true, false}
+use Rattle.std.specs.Prelude.{option_map, cond, ◌&&◌}
 use Rattle.mf_base.specs.declared.place.Place.{Place}
 use Rattle.mf_base.specs.declared.place.Rect.{Rect}
 use Rattle.mf_base.specs.declared.tile.TilePlace.{TilePlace}

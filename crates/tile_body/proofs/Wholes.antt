@@ -1,12 +1,12 @@
 -- A whole tile: what is put one after another, what holds of each member, and that the tile is read again.
-use Rattle.std.proofs.Common.{◌≡◌, ◌≢◌, ℕ, suc, ◌+◌, ◌*◌, ◌/◌, ◌^◌, ◌≤◌, ◌<◌, List, [], ◌∷◌, ◌++◌, length, map, refl}
+use Rattle.std.proofs.Common.{◌≡◌, ◌≢◌, ℕ, ◌+◌, ◌*◌, ◌^◌, ◌≤◌, ◌<◌, List, [], ◌∷◌, ◌++◌, length, map, refl}
 use Rattle.std.proofs.Common.{sym}
-use Rattle.std.proofs.Common.{ap, ◌∙◌, arith, length-append, append_assoc, Bool, true, false, Ok, subst, Some, inl, inr}
-use Rattle.std.specs.Prelude.{nat_lt, min, IsTrue, slice_get}
+use Rattle.std.proofs.Common.{ap, ◌∙◌, arith, length-append, Bool, true, false, Ok, subst, inl, inr}
+use Rattle.std.specs.Prelude.{nat_lt, min}
 use Rattle.std.specs.List.{AllByRecursion}
 use Rattle.std.proofs.lemmas.Bool.{cases_lt, lt-ltb, le-ltb}
 use Rattle.std.proofs.lemmas.List.{length-map}
-use Rattle.mf_base.specs.Buffer.{Buffer, AppendsTo, HasRoom}
+use Rattle.mf_base.specs.Buffer.{Buffer, AppendsTo}
 use Rattle.mf_base.specs.Spelling.{vbe_unsigned}
 use Rattle.mf_base.specs.declared.kind.EntityKind.{EntityKind}
 use Rattle.mf_base.specs.declared.place.Place.{Place}
@@ -19,7 +19,7 @@ use Rattle.map_model.specs.Bitmap.{sub_tile_bits}
 use Rattle.map_model.specs.Layout.{sized}
 use Rattle.map_model.specs.TileBytes.{tile_corner, tile_bytes, coordinate_size, is_double}
 use Rattle.map_model.specs.TileReading.{read_tile, read_tile_from}
-use Rattle.map_model.specs.TagLists.{TagLists, tag_lists}
+use Rattle.map_model.specs.TagLists.{tag_lists}
 use Rattle.map_model.specs.Listed.{listed}
 use Rattle.map_model.proofs.LevelLemmas.{tile_bytes-flat}
 use Rattle.map_model.proofs.CornerLemmas.{tile_corner-in_range}

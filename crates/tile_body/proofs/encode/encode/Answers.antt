@@ -1,4 +1,4 @@
-use Rattle.std.proofs.Common.{◌≡◌, ◌∙◌, ◌≤◌, ap, length, arith}
+use Rattle.std.proofs.Common.{◌∙◌, ◌≤◌, ap, length, arith}
 use Rattle.mf_base.specs.Buffer.{Buffer}
 use Rattle.map_model.specs.TagLists.{tag_lists}
 use Rattle.map_model.specs.TileReading.{read_tile}

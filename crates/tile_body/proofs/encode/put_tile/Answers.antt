@@ -1,4 +1,4 @@
-use Rattle.std.proofs.Common.{◌≡◌, ◌∙◌, ◌++◌, ap, sym, subst, length, arith}
+use Rattle.std.proofs.Common.{◌∙◌, ◌++◌, ap, sym, subst, length, arith}
 use Rattle.std.proofs.lemmas.Bool.{eqb-true}
 use Rattle.mf_base.specs.Buffer.{Buffer, AppendsTo}
 use Rattle.mf_base.specs.Spelling.{vbe_unsigned}

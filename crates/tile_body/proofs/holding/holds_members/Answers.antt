@@ -1,4 +1,4 @@
-use Rattle.std.proofs.Common.{length, arith, sym, true≢false}
+use Rattle.std.proofs.Common.{arith, sym, true≢false}
 use Rattle.std.proofs.lemmas.Bool.{both_ways}
 use Rattle.tile_body.proofs.Added.{tested-more, each-next, all-in_order}
 use Rattle.tile_body.proofs.holding.holds_members.Goals as goal

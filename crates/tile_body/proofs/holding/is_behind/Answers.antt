@@ -1,4 +1,4 @@
-use Rattle.std.proofs.Common.{length, arith}
+use Rattle.std.proofs.Common.{arith}
 use Rattle.tile_body.proofs.Added.{last-before}
 use Rattle.tile_body.proofs.Order.{behind-told}
 use Rattle.tile_body.proofs.holding.is_behind.Goals as goal

@@ -1,4 +1,4 @@
-use Rattle.std.proofs.Common.{◌≡◌, ◌∙◌, sym, subst}
+use Rattle.std.proofs.Common.{◌∙◌, sym, subst}
 use Rattle.mf_rows.specs.FirstUnits.{IsHead}
 use Rattle.tile_body.proofs.Admitted.{spelled-is, is-spelled}
 use Rattle.tile_body.proofs.holding.is_member.Goals as goal

@@ -1,4 +1,4 @@
-use Rattle.std.proofs.Common.{◌≡◌, ◌∙◌, sym, ap}
+use Rattle.std.proofs.Common.{◌∙◌, sym, ap}
 use Rattle.map_model.specs.Labels.{same_place}
 use Rattle.way_delta.proofs.Lists.{first_part}
 use Rattle.tile_body.proofs.FirstRing.{first-place_is, closed-told}

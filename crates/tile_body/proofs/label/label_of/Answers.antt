@@ -1,4 +1,4 @@
-use Rattle.std.proofs.Common.{◌≡◌, ◌∙◌, sym, ap, refl}
+use Rattle.std.proofs.Common.{◌∙◌, sym, ap}
 use Rattle.mf_rows.specs.declared.head.Head.{Head}
 use Rattle.map_model.specs.Layout.{step}
 use Rattle.tile_body.proofs.Wayside.{no-mark, not-closed, labelled}

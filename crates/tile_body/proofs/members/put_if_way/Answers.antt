@@ -1,10 +1,8 @@
-use Rattle.std.proofs.Common.{◌≡◌, ◌∙◌, ◌+◌, ap, sym, length, arith, subst, true, false}
+use Rattle.std.proofs.Common.{◌∙◌, ◌+◌, sym, length, subst, true, false}
 use Rattle.mf_base.specs.Buffer.{HasRoom, AppendsTo}
-use Rattle.map_model.specs.Members.{is_poi, is_way}
-use Rattle.map_model.specs.TileBytes.{poi_bytes}
+use Rattle.map_model.specs.Members.{is_way}
 use Rattle.mf_rows.specs.Shapes.{feature_told}
-use Rattle.tile_body.specs.Members.{IsMember}
-use Rattle.tile_body.specs.Tiles.{part_of, way_in}
+use Rattle.tile_body.specs.Tiles.{way_in}
 use Rattle.tile_body.proofs.Classes.{part-yes, part-no, way-is}
 use Rattle.tile_body.specs.Ways.{way_told}
 use Rattle.way_delta.proofs.Writing.{puts-nothing}

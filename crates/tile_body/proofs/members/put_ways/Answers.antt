@@ -1,10 +1,7 @@
-use Rattle.std.proofs.Common.{◌≡◌, ◌∙◌, ◌+◌, ap, sym, length, arith, subst, true, false}
-use Rattle.mf_base.specs.Buffer.{HasRoom, AppendsTo}
-use Rattle.map_model.specs.Members.{is_poi, is_way}
-use Rattle.map_model.specs.TileBytes.{poi_bytes}
-use Rattle.mf_rows.specs.Shapes.{feature_told}
+use Rattle.std.proofs.Common.{arith}
+use Rattle.map_model.specs.Members.{is_way}
 use Rattle.tile_body.specs.Members.{IsMember}
-use Rattle.tile_body.specs.Tiles.{part_of, way_in}
+use Rattle.tile_body.specs.Tiles.{way_in}
 use Rattle.way_delta.proofs.OfDesk.{units-at}
 use Rattle.tile_body.proofs.Classes.{holds-at, class-none, class-room, class-puts, class-all}
 use Rattle.tile_body.proofs.members.put_ways.Goals as goal

@@ -1,10 +1,9 @@
 use Rattle.std.proofs.Common.{length, arith, refl}
-use Rattle.mf_base.specs.Buffer.{HasRoom, AppendsTo}
-use Rattle.map_model.specs.Members.{is_poi, is_way}
+use Rattle.map_model.specs.Members.{is_poi}
 use Rattle.map_model.specs.TileBytes.{poi_bytes}
 use Rattle.mf_rows.specs.Shapes.{feature_told}
 use Rattle.tile_body.specs.Members.{IsMember}
-use Rattle.tile_body.specs.Tiles.{part_of, way_in}
+use Rattle.tile_body.specs.Tiles.{part_of}
 use Rattle.tile_body.proofs.Classes.{holds-at, measures-none, measures-fit, measures-more, measures-all}
 use Rattle.tile_body.proofs.members.size_pois.Goals as goal
 

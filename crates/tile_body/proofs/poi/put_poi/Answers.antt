@@ -1,4 +1,4 @@
-use Rattle.std.proofs.Common.{◌≡◌, ◌∙◌, ap, length, arith, subst, [], ◌∷◌}
+use Rattle.std.proofs.Common.{◌∙◌, ap, length, arith, subst, [], ◌∷◌}
 use Rattle.mf_base.specs.Buffer.{AppendsTo}
 use Rattle.mf_base.specs.Spelling.{vbe_signed, string}
 use Rattle.map_model.specs.Layout.{step, step_bytes, optional, tag_bytes}
@@ -7,7 +7,7 @@ use Rattle.mf_rows.specs.declared.head.TextSlot.TheVariants.{Name, House}
 use Rattle.mf_rows.specs.Records.{text_in}
 use Rattle.way_delta.specs.Steps.{shown}
 use Rattle.tile_body.specs.Tags.{tags_told}
-use Rattle.tile_body.proofs.Bodies.{spot_of, size-after, poi-length, puts-poi}
+use Rattle.tile_body.proofs.Bodies.{size-after, poi-length, puts-poi}
 use Rattle.tile_body.proofs.poi.put_poi.Goals as goal
 
 pub put_step-requires-clause-room : goal.put_step-requires-clause-room

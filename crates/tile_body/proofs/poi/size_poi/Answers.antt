@@ -1,10 +1,8 @@
-use Rattle.std.proofs.Common.{◌≡◌, ◌∙◌, ap, length, arith, subst, [], ◌∷◌}
-use Rattle.mf_base.specs.Buffer.{AppendsTo}
+use Rattle.std.proofs.Common.{◌∙◌, ap, length, arith}
 use Rattle.mf_base.specs.Spelling.{vbe_signed}
 use Rattle.map_model.specs.Layout.{step, step_bytes, optional}
 use Rattle.mf_rows.specs.declared.head.Head.{Head}
-use Rattle.way_delta.specs.Steps.{shown}
-use Rattle.tile_body.proofs.Bodies.{spot_of, poi-length}
+use Rattle.tile_body.proofs.Bodies.{poi-length}
 use Rattle.tile_body.proofs.poi.size_poi.Goals as goal
 
 pub size_tags-requires-clause-fits : goal.size_tags-requires-clause-fits

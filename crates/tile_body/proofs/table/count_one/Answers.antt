@@ -1,8 +1,7 @@
-use Rattle.std.proofs.Common.{◌≡◌, ◌∙◌, ap, sym, true, false, arith}
+use Rattle.std.proofs.Common.{◌∙◌, ap, sym, true, false}
 use Rattle.std.specs.Prelude.{max}
 use Rattle.map_model.specs.Members.{is_poi, is_way}
 use Rattle.mf_rows.specs.declared.head.Head.{Head}
-use Rattle.mf_rows.specs.Shapes.{feature_told}
 use Rattle.tile_body.proofs.Classes.{poi-is, way-is}
 use Rattle.tile_body.proofs.Counting.{counted-yes, counted-no}
 use Rattle.tile_body.proofs.table.count_one.Goals as goal

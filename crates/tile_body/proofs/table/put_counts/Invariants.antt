@@ -1,4 +1,4 @@
-use Rattle.std.proofs.Common.{suc, ◌≤◌, ◌-◌}
+use Rattle.std.proofs.Common.{suc, ◌-◌}
 use Rattle.tile_body.proofs.Counting.{PutsLevels}
 use Rattle.tile_body.proofs.table.put_counts.Given as goal
 

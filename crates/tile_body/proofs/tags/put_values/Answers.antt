@@ -1,4 +1,4 @@
-use Rattle.std.proofs.Common.{◌≡◌, ◌<◌, ◌≤◌, ◌+◌, ◌^◌, List, length, arith, ◌∙◌, ap, sym, subst, slice_index_or}
+use Rattle.std.proofs.Common.{◌<◌, ◌≤◌, ◌+◌, List, length, ◌∙◌, ap, sym, subst, slice_index_or}
 use Rattle.mf_base.specs.Buffer.{HasRoom, AppendsTo}
 use Rattle.mf_base.specs.declared.kept.Kept.{Kept}
 use Rattle.mf_base.specs.declared.kept.KeptValue.TheVariants.{Plain}

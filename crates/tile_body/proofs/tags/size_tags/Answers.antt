@@ -1,4 +1,4 @@
-use Rattle.std.proofs.Common.{◌≡◌, ◌∙◌, ap, length, arith}
+use Rattle.std.proofs.Common.{◌∙◌, ap, length, arith}
 use Rattle.mf_rows.specs.declared.head.Head.{Head}
 use Rattle.tile_body.specs.Tags.{ids_bytes}
 use Rattle.tile_body.proofs.TagBytes.{tags-length}

@@ -1,5 +1,4 @@
-use Rattle.std.proofs.Common.{◌≡◌, ◌<◌, ◌≤◌, ◌+◌, ◌^◌, List, length, arith, ◌∙◌, ap, sym, subst, slice_index_or}
-use Rattle.mf_base.specs.Buffer.{HasRoom, AppendsTo}
+use Rattle.std.proofs.Common.{◌≡◌, ◌<◌, ◌≤◌, List, length, arith, ◌∙◌, ap, subst, slice_index_or}
 use Rattle.mf_base.specs.declared.kept.Kept.{Kept}
 use Rattle.mf_base.specs.declared.kept.KeptValue.TheVariants.{Plain}
 use Rattle.mf_rows.specs.declared.head.Head.{Head}

@@ -1,7 +1,3 @@
-use Rattle.std.proofs.Common.{◌≡◌, ◌∙◌, ap, arith, length, true, false}
-use Rattle.std.specs.Prelude.{nat_lt}
-use Rattle.map_model.specs.TileBytes.{coordinate_size, is_double}
-use Rattle.mf_rows.specs.Shapes.{feature_told}
 use Rattle.tile_body.proofs.Wholes.{double-is, drawn-size}
 use Rattle.tile_body.proofs.way.drawn_of.Goals as goal
 

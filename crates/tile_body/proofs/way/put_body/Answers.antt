@@ -1,4 +1,4 @@
-use Rattle.std.proofs.Common.{◌≡◌, ◌∙◌, ap, length, arith, subst, [], ◌∷◌}
+use Rattle.std.proofs.Common.{arith, subst, [], ◌∷◌}
 use Rattle.mf_base.specs.Buffer.{AppendsTo}
 use Rattle.mf_base.proofs.ByteLaws.{length-big_endian}
 use Rattle.std.specs.Prelude.{option_map}
@@ -8,7 +8,7 @@ use Rattle.mf_rows.specs.Records.{text_in}
 use Rattle.mf_rows.specs.declared.head.TextSlot.TheVariants.{Name, House, Reference}
 use Rattle.way_delta.specs.Steps.{shown}
 use Rattle.tile_body.specs.Tags.{tags_told}
-use Rattle.tile_body.specs.Ways.{flags_of, block_count_bytes}
+use Rattle.tile_body.specs.Ways.{block_count_bytes}
 use Rattle.tile_body.proofs.Bodies.{size-after, body-length, puts-body}
 use Rattle.tile_body.proofs.Wholes.{few-blocks}
 use Rattle.tile_body.proofs.way.put_body.Goals as goal

@@ -1,4 +1,4 @@
-use Rattle.std.proofs.Common.{length, arith, refl, subst, sym}
+use Rattle.std.proofs.Common.{length, arith, subst}
 use Rattle.mf_base.specs.Buffer.{AppendsTo}
 use Rattle.mf_base.specs.Spelling.{vbe_unsigned}
 use Rattle.tile_body.specs.Ways.{body_of}

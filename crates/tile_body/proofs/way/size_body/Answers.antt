@@ -1,4 +1,4 @@
-use Rattle.std.proofs.Common.{arith, length, ap, ◌∙◌}
+use Rattle.std.proofs.Common.{arith}
 use Rattle.tile_body.proofs.Bodies.{body-length}
 use Rattle.tile_body.proofs.way.size_body.Goals as goal
 
