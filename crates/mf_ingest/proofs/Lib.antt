@@ -4,3 +4,10 @@ pub mod FrontIs
 pub mod Spans
 pub mod TextSizes
 pub mod Describing
+pub mod Records
+pub mod Handing
+pub mod JustParts
+pub mod RowTurns
+pub mod Gatherings
+pub mod EntityPuts
+pub mod Grown

@@ -1,14 +1,21 @@
 //! What the entities of an input become: rows of the parts that the next pass reads.
 //!
 //! `lent` is what an entity tells of itself. `candidate` gives the head and the texts of one that is a candidate, by
-//! `heads` and `texts`; nothing is copied out of its block.
+//! `heads` and `texts`; nothing is copied out of its block. `gathering` puts the rows of each entity to six parts, by
+//! `rows`, which takes them one behind another from `refs`, `members` and `units`.
 #![tactic(auto)]
 
 mod candidate;
 mod front;
+mod gathering;
 mod heads;
 mod lent;
+mod members;
+mod refs;
+mod rows;
 mod texts;
+mod units;
 
 pub use candidate::describe;
 pub use front::Described;
+pub use gathering::Gathering;
