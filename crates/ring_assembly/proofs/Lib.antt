@@ -1,3 +1,6 @@
 pub mod Crossings
 pub mod Products
 pub mod Edges
+pub mod Marks
+pub mod Freed
+pub mod Takings

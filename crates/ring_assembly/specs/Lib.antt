@@ -1,1 +1,4 @@
 pub mod Edges
+pub mod Marked
+pub mod Found
+pub mod Taken
