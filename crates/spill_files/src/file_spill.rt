@@ -1,6 +1,6 @@
 //! The store over a folder.
 
-ghost use Rattle.std.specs.Prelude.{◌≡◌, ◌<◌, ◌+◌, ◌≤◌, OnOk, OnErr, IfOk};
+ghost use Rattle.std.specs.Prelude.{◌≡◌, ◌<◌, ◌+◌, ◌≤◌, false, [], OnOk, OnErr, IfOk};
 ghost use Rattle.mf_edge.specs.Device.{CountsOne};
 ghost use Rattle.spill_files.specs.FolderStore.{new_store};
 
@@ -68,10 +68,14 @@ impl FileSpill {
         }
     }
 
-    /// Removes the files of the store, and its folder where it made it and nothing else is in it.
-    pub fn finish(self) {
-        let mut folder = self.folder;
-        let _ = folder.remove();
+    /// Removes the files of the store, and its folder where it made it and nothing else is in it. Then it is not
+    /// started, and no part is there.
+    pub fn finish(&mut self)
+        ensures { self.new ≡ record self.old { is_started = false; lengths = [] } }
+    {
+        let _ = self.folder.remove();
+        self.is_started = false;
+        self.lengths.clear();
     }
 }
 

@@ -158,6 +158,7 @@ impl Folder {
         if self.is_made {
             let _ = fs::remove_dir(&self.rt, self.path.as_str());
         }
+        self.is_made = false;
         Ok(())
     }
 }

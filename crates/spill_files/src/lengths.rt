@@ -43,6 +43,7 @@ impl Lengths {
         requires { part_count self.now < 4096 }
         ensures free { length_in self.now result ≡ None }
         ensures next { result ≤ length self.now }
+        ensures below { result < 4096 }
     {
         free_place(&self.list) as u32
     }
