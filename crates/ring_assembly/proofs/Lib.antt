@@ -4,3 +4,4 @@ pub mod Edges
 pub mod Marks
 pub mod Freed
 pub mod Takings
+pub mod RowBytes

@@ -2,3 +2,4 @@ pub mod Edges
 pub mod Marked
 pub mod Found
 pub mod Taken
+pub mod Rows
