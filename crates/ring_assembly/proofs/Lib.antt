@@ -5,3 +5,4 @@ pub mod Marks
 pub mod Freed
 pub mod Takings
 pub mod RowBytes
+pub mod Growth

@@ -3,3 +3,4 @@ pub mod Marked
 pub mod Found
 pub mod Taken
 pub mod Rows
+pub mod Added
