@@ -29,3 +29,6 @@ pub fn describe<'a>(mapping: &Mapping, entity: Entity, block: &'a [u8]) -> Optio
     let head = head_of(kind, id_of(entity), height_of(kind, tags), choice);
     Some(Described { head, texts })
 }
+
+#[cfg(test)]
+mod tests;
