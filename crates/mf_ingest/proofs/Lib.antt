@@ -11,3 +11,4 @@ pub mod RowTurns
 pub mod Gatherings
 pub mod EntityPuts
 pub mod Grown
+pub mod Composed
