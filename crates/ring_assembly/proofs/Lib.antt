@@ -6,3 +6,4 @@ pub mod Freed
 pub mod Takings
 pub mod RowBytes
 pub mod Growth
+pub mod RingGrowth

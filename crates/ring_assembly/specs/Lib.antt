@@ -4,3 +4,4 @@ pub mod Found
 pub mod Taken
 pub mod Rows
 pub mod Added
+pub mod Joining
