@@ -1,5 +1,5 @@
 -- The entities of a block, handed to a reader one after another.
-use Rattle.std.proofs.Common.{◌≡◌, ◌∙◌, ◌∷◌, ◌++◌, List, [], Some, None, Result, Ok, Err}
+use Rattle.std.proofs.Common.{◌≡◌, ◌∙◌, ◌≤◌, ◌∷◌, ◌++◌, ℕ, arith, List, [], Some, None, Result, Ok, Err}
 use Rattle.std.proofs.Common.{sym, ap, subst, append-nil, append_assoc}
 use Rattle.std.specs.Prelude.{option_map}
 use Rattle.osm_model.specs.declared.faults.EntityFault.{EntityFault}
@@ -14,6 +14,8 @@ use Rattle.osm_entity.specs.EntityViews.{entity_told}
 use Rattle.osm_entity.specs.BlockEntities.{GivesEntity}
 use Rattle.osm_entity.specs.declared.entity.Entity as lent
 use Rattle.osm_entity.specs.declared.order.Order.{Order}
+use Rattle.osm_entity.proofs.OrderReads.{some-before}
+use Rattle.extract_pass.specs.EntitySizes.{entity_size, entities_size}
 use Rattle.extract_pass.specs.declared.fault.BlobStop.TheVariants as blob_stop
 use Rattle.extract_pass.specs.declared.reader.Stopped.{Stopped}
 use Rattle.extract_pass.specs.BlobReading.{AnswersEntity, ReadsObjects}
@@ -120,4 +122,30 @@ so-fault A Stands StoppedAt before objects left rest old new last fault so gives
       ap (option_map input_codes.Entity) (given-fault before so.given objects left fault so.so stop),
       subst (λ es. Stands (before ++ es)) (sym (given-items before so.given objects left so.so
           (ap (λ (r : Reading Entity EntityFault). r.items) stop))) so.stands,
+    )
+
+-- ---- how many bytes the entities take
+
+-- The entities that are left take at most so many bytes, behind some that the order stands behind.
+pub record Fit (left : List (Result Object EntityFault)) (order : Order) (most : ℕ) : Type 0 where
+  pub before : List Entity
+  pub behind : StandsBehind before order
+  pub few : entities_size (in_order before left).items ≤ most
+
+pub fit-first : (left : List (Result Object EntityFault)) (order : Order) (most : ℕ)
+    → ((before : List Entity) → StandsBehind before order → entities_size (in_order before left).items ≤ most)
+    → Fit left order most
+fit-first left order most all =
+    let (before, behind) = some-before order in
+    record { before = before; behind = behind; few = all before behind }
+
+pub fit-next : (left rest : List (Result Object EntityFault)) (old new : Order) (most : ℕ) (e : lent.Entity)
+    → Fit left old most
+    → ((es : List Entity) → StandsBehind es old → GivesEntity es left old (Ok (Some e)) rest new)
+    → (entity_size (entity_told e) ≤ most) × Fit rest new most
+fit-next left rest old new most e fit gives =
+    let next = gives fit.before fit.behind in
+    let size = ap (λ (r : Reading Entity EntityFault). entities_size r.items) next.0 in (
+      omega (arith, fit.few, size),
+      record { before = fit.before ++ entity_told e ∷ []; behind = next.1; few = omega (arith, fit.few, size) },
     )

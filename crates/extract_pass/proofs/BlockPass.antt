@@ -1,5 +1,5 @@
 -- A pass over the objects of a block comes to what the block spells, behind the entities before it.
-use Rattle.std.proofs.Common.{◌≡◌, ◌∙◌, ◌∷◌, ◌++◌, ℕ, List, [], Some, None, Result, Ok, Err, refl, sym, ap}
+use Rattle.std.proofs.Common.{◌≡◌, ◌∙◌, ◌≤◌, ◌∷◌, ◌++◌, length, arith, ℕ, List, [], Some, None, Result, Ok, Err, refl, sym, ap}
 use Rattle.std.proofs.Common.{append-nil, append_assoc, subst}
 use Rattle.std.proofs.lemmas.Option.{none-some, same_Some}
 use Rattle.std.specs.Prelude.{filter_map, option_map}
@@ -24,7 +24,10 @@ use Rattle.osm_model.proofs.OrderLaws.{in_order-all}
 use Rattle.osm_model.proofs.BlockLaws.{block-fault, head-fault, block-whole}
 use Rattle.osm_model.proofs.RisingLaws.{block-rises}
 use Rattle.osm_entity.specs.InBlock.{texts_at}
+use Rattle.extract_pass.specs.EntitySizes.{entities_size}
 use Rattle.extract_pass.specs.BlobReading.{sound_in, sound_entities}
+use Rattle.extract_pass.proofs.FieldSizes.{total, bytes_size, fields-size, bytes-of-size}
+use Rattle.extract_pass.proofs.ObjectSizes.{objects_size, block-size, in_order-size}
 
 -- ---- the objects of a block
 
@@ -121,11 +124,20 @@ primitive-sound es raw b is none = record {
   told = told_in raw b is ∙ in_order-all es (block_objects b) none;
 }
 
--- The objects are those of the block that the bytes spell.
+-- The objects are those of the block that the bytes spell, and take no more bytes than these.
 pub record HasObjects (raw : List ℕ) (objects : List (Result Object EntityFault)) : Type 0 where
   pub in_block : PrimitiveBlock
   pub is : block raw ≡ Ok in_block
   pub same : objects ≡ block_objects in_block
+  pub few : objects_size objects ≤ length raw
+
+-- the objects of a block with the groups of these bytes take no more bytes than these
+of_block : (raw : List ℕ) (objects : List (Result Object EntityFault)) (b : PrimitiveBlock)
+    → b.groups ≡ bytes_of BLOCK_PRIMITIVEGROUP (fields raw).items → objects ≡ block_objects b
+    → objects_size objects ≤ length raw
+of_block raw objects b groups same =
+    let most = subst (λ gs. objects_size (block_objects b) ≤ total bytes_size gs) groups (block-size b) in
+    omega (arith, ap objects_size same, most, bytes-of-size BLOCK_PRIMITIVEGROUP (fields raw).items, fields-size raw)
 
 pub has-objects : (raw places : List ℕ) (head : BlockHead) (objects : List (Result Object EntityFault))
     → block_head raw ≡ Ok head → block_strings raw ≡ Ok (texts_at raw places)
@@ -137,7 +149,13 @@ has-objects raw places head objects is_head are_strings told =
       groups = bytes_of BLOCK_PRIMITIVEGROUP (fields raw).items;
     } in
     let is = block-whole raw b (record { head = is_head; strings = are_strings; groups = refl }) in
-    record { in_block = b; is = is; same = told b is }
+    let same = told b is in
+    record { in_block = b; is = is; same = same; few = of_block raw objects b refl same }
+
+-- the entities of these objects that stand in order take no more bytes
+pub objects-fit : (before : List Entity) (raw : List ℕ) (objects : List (Result Object EntityFault))
+    → HasObjects raw objects → entities_size (in_order before objects).items ≤ length raw
+objects-fit before raw objects has = omega (arith, in_order-size before objects, has.few)
 
 pub objects-rise : (es : List Entity) (raw : List ℕ) (objects : List (Result Object EntityFault))
     → HasObjects raw objects → IsRising es → IsRising (es ++ (in_order es objects).items)

@@ -1,3 +1,5 @@
+pub mod FieldSizes
+pub mod ObjectSizes
 pub mod ReadBlobs
 pub mod BlockPass
 pub mod BlockGiven

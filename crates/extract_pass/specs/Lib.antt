@@ -1,3 +1,4 @@
+pub mod EntitySizes
 pub mod BlobReading
 pub mod Behind
 pub mod EntityPass

@@ -58,7 +58,9 @@ impl Behind {
         strings: &mut Strings,
         reader: &mut R,
     ) -> Result<(), BlobStop>
-        requires { length raw.now ≤ BLOB_LIMIT }
+        requires near { length raw.now ≤ BLOB_LIMIT }
+        requires stood { (first : R) × (entities : List Entity) × (bounds : Option Rect)
+            × IsBehind self.old entities bounds × R.stands first reader.old entities }
         ensures { (first : R) (entities : List Entity) (bounds : Option Rect) → IsBehind self.old entities bounds
             → R.stands first reader.old entities
             → ReadsBlob (IsBehind self.new) (R.stands first reader.new) (R.stopped first reader.new) entities bounds
@@ -94,7 +96,9 @@ impl Behind {
         strings: &mut Strings,
         reader: &mut R,
     ) -> Result<(), BlobStop>
-        requires { length raw.now < 2 ^ 32 }
+        requires near { length raw.now < 2 ^ 32 }
+        requires stood { (first : R) × (entities : List Entity) × (bounds : Option Rect)
+            × IsBehind self.old entities bounds × R.stands first reader.old entities }
         ensures { (first : R) (entities : List Entity) (bounds : Option Rect) → IsBehind self.old entities bounds
             → R.stands first reader.old entities
             → ReadsBlob (IsBehind self.new) (R.stands first reader.new) (R.stopped first reader.new) entities bounds
@@ -116,6 +120,8 @@ impl Behind {
         requires near { length raw.now < 2 ^ 32 }
         requires strings { block_strings raw.now ≡ Ok (texts_at raw.now strings.now) }
         requires held { are_texts raw.now strings.now ≡ true }
+        requires stood { (first : R) × (entities : List Entity) × (bounds : Option Rect)
+            × IsBehind self.old entities bounds × R.stands first reader.old entities }
         ensures { (first : R) (entities : List Entity) (bounds : Option Rect) → IsBehind self.old entities bounds
             → R.stands first reader.old entities
             → ReadsBlob (IsBehind self.new) (R.stands first reader.new) (R.stopped first reader.new) entities bounds

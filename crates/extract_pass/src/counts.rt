@@ -18,8 +18,8 @@ impl Counts {
     ghost use Rattle.osm_entity.specs.EntityViews.{entity_told};
     ghost use Rattle.extract_pass.specs.Counting.{counts_of};
 
-    // Of no entity.
-    pub(crate) fn new() -> Counts
+    /// Of no entity.
+    pub fn new() -> Counts
         ensures { result ≡ counts_of [] }
     {
         Counts {
@@ -29,8 +29,8 @@ impl Counts {
         }
     }
 
-    // One entity more. No count of entities in their order ends, since their ids rise.
-    pub(crate) fn add(&mut self, entity: Entity)
+    /// One entity more. No count of entities in their order ends, since their ids rise.
+    pub fn add(&mut self, entity: Entity)
         ensures { (before more : List model.Entity) → IsRising (before ++ entity_told entity.entry ∷ more)
             → self.old ≡ counts_of before → self.new ≡ counts_of (before ++ entity_told entity.entry ∷ []) }
     {

@@ -26,6 +26,7 @@ pub fn read_entities<S: Source, R: EntityReader>(
 ) -> Result<Option<Rect>, PassFault>
     requires room { BLOB_LIMIT ≤ block.old.capacity }
     requires start { (at S.state src.old).offset ≡ 0 }
+    requires begun { (first : R) × R.stands first reader.old [] }
 
     // Over every source, also one that does not tell its bytes.
     ensures told { (first : R) → R.stands first reader.old []

@@ -5,6 +5,9 @@ use Rattle.extract_pass.specs.Counting.{HasCounted, NeverStops}
 use Rattle.extract_pass.proofs.Counted.{tells-ok, tells-err, exact-ok, exact-err}
 use Rattle.extract_pass.proofs.count.count_extract.Goals as goal
 
+pub read_entities-requires-clause-begun : goal.read_entities-requires-clause-begun
+read_entities-requires-clause-begun g c = (c.new-counts.result, c.new-counts.ensures)
+
 pub returns-in-Err-clause-told : goal.returns-in-Err-clause-told
 returns-in-Err-clause-told g c =
     let first = c.new-counts.result in

@@ -21,6 +21,12 @@ loop-frame-init g c = (
   refl,
 )
 
+pub read-requires-clause-stood : goal.read-requires-clause-stood
+read-requires-clause-stood g c =
+    let (first, none) = c.requires.begun in
+    let so = c.loop-frame.invariant.0 first none in
+    let (es, box, both, read) = so.holds in (first, es, box, both.0, both.1)
+
 pub returns-in-Err-read-clause-told : goal.returns-in-Err-read-clause-told
 returns-in-Err-read-clause-told g c first none =
     let f = c.in-Ok-Some.frame in
