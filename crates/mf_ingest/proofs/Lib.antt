@@ -12,3 +12,5 @@ pub mod Gatherings
 pub mod EntityPuts
 pub mod Grown
 pub mod Composed
+pub mod Ingesting
+pub mod Ingested

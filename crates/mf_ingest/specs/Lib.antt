@@ -4,3 +4,5 @@ pub mod Giving
 pub mod LeftRows
 pub mod Gathered
 pub mod EntityRows
+pub mod Ingesting
+pub mod Ingest

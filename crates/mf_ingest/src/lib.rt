@@ -2,13 +2,16 @@
 //!
 //! `lent` is what an entity tells of itself. `candidate` gives the head and the texts of one that is a candidate, by
 //! `heads` and `texts`; nothing is copied out of its block. `gathering` puts the rows of each entity to six parts, by
-//! `rows`, which takes them one behind another from `refs`, `members` and `units`.
+//! `rows`, which takes them one behind another from `refs`, `members` and `units`. `ingest` does so with all entities of an
+//! input, by `ingester`, the reader of a pass over them.
 #![tactic(auto)]
 
 mod candidate;
 mod front;
 mod gathering;
 mod heads;
+pub mod ingest;
+mod ingester;
 mod lent;
 mod members;
 mod refs;
