@@ -20,6 +20,7 @@ short_value (model.KeptValue.short z) = read.Short z
 short_value (model.KeptValue.int z) = read.Int z
 short_value (model.KeptValue.text text) = read.Text (length text)
 
+-- a kept tag, of whose text the length alone is told
 abbrev pub short_kept : Kept → KeptRead
 short_kept k = record { tag = k.tag; value = short_value k.value }
 

@@ -24,6 +24,7 @@ abbrev pub closed_as : Option Record → Desktop → Desktop
 closed_as None d = d
 closed_as (Some r) d = record { records = d.records ++ r ∷ []; loose = []; capacity = d.capacity }
 
+-- a desk whose loose units are closed as a record; where they spell none it is as it was
 abbrev pub closed : Desktop → Desktop
 closed d = closed_as (record_in d.loose) d
 

@@ -71,9 +71,10 @@ impl Records {
         self.closed = 0;
     }
 
-    /// For how many more rows there is room.
+    /// For how many more rows there is room. No room is for more than 2^24 rows.
     pub fn spare(&self) -> u32
-        ensures { result + used self.now ≡ self.now.capacity }
+        ensures rest { result + used self.now ≡ self.now.capacity }
+        ensures most { self.now.capacity ≤ 16777216 }
     {
         (self.units.capacity() - self.units.len()) as u32
     }
