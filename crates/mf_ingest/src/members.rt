@@ -1,7 +1,6 @@
 //! The members of a relation as rows.
 
-ghost use Rattle.std.specs.Prelude.{◌≡◌, ◌+◌, ◌^◌, ◌<◌, length, option_map};
-ghost use Rattle.mf_rows.specs.Units.{role_number};
+ghost use Rattle.std.specs.Prelude.{◌≡◌, ◌+◌, ◌^◌, ◌<◌, length};
 ghost use Rattle.feature_model.specs.Points.{role_of as role_told};
 ghost use Rattle.osm_entity.specs.Members.{members_left, member_told};
 ghost use Rattle.osm_entity.specs.Relations.{relation_shown};
@@ -10,8 +9,9 @@ ghost use Rattle.mf_ingest.specs.LeftRows.{members_from};
 
 use crate::refs::id_named;
 use crate::rows::Rows;
-use mf_base::kind::EntityKind;
+use mf_base::kind::{EntityKind, Role};
 use mf_rows::kinds::MemberRow;
+use mf_rows::numbers::number_of_role;
 use osm_entity::members::{Member, MemberCursor};
 use osm_entity::relation::RelationView;
 
@@ -77,17 +77,17 @@ fn row_of(relation: u64, place: u32, member: Member) -> Option<MemberRow>
         way,
         relation,
         member: place,
-        role,
+        role: number_of_role(role),
     })
 }
 
-// The number of the role that a text tells: 0 for `outer` and for the empty role, 1 for `inner`.
-fn role_of(role: &[u8]) -> Option<u8>
-    ensures { result ≡ option_map role_number (role_told role.now) }
+// The role that a text tells: `outer` or the empty one, and `inner`.
+fn role_of(role: &[u8]) -> Option<Role>
+    ensures { result ≡ role_told role.now }
 {
     match role {
-        b"outer" | b"" => Some(0),
-        b"inner" => Some(1),
+        b"outer" | b"" => Some(Role::Outer),
+        b"inner" => Some(Role::Inner),
         _ => None,
     }
 }

@@ -13,10 +13,10 @@ ghost use Rattle.mf_ingest.specs.LeftRows.{units_from};
 
 use crate::front::Described;
 use crate::rows::Rows;
-use mf_base::kind::EntityKind;
 use mf_rows::first_units::{first_unit, first_units};
 use mf_rows::head::Head;
 use mf_rows::kinds::FeatureRow;
+use mf_rows::numbers::number_of_kind;
 
 /// Gives the units of a head and its texts, each with its place.
 #[derive(Drop)]
@@ -65,20 +65,9 @@ pub(crate) fn row_of(head: &Head, place: u32, unit: [u8; 16]) -> FeatureRow
     ensures { result ≡ feature_row_of (kind_number head.now.kind) head.now.id (place, unit) }
 {
     FeatureRow {
-        kind: number_of(head.kind),
+        kind: number_of_kind(head.kind),
         id: head.id,
         place,
         unit,
-    }
-}
-
-// The number of a kind.
-fn number_of(kind: EntityKind) -> u8
-    ensures { result ≡ kind_number kind }
-{
-    match kind {
-        EntityKind::Node => 0,
-        EntityKind::Way => 1,
-        EntityKind::Relation => 2,
     }
 }

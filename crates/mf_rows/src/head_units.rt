@@ -2,7 +2,7 @@
 
 ghost use Rattle.std.specs.Prelude.{◌≡◌, ◌+◌, ◌≤◌, ◌<◌, ◌++◌, length, drop, slice_get};
 ghost use Rattle.mf_rows.specs.Fields.{fields_bytes};
-ghost use Rattle.mf_rows.specs.Heads.{value_kind, value_number, kept_fields, kind_number, marks as marks_of};
+ghost use Rattle.mf_rows.specs.Heads.{value_kind, value_number, kept_fields, marks as marks_of};
 ghost use Rattle.mf_rows.specs.Heads.{id_unit as unit_of_ids, marks_unit as unit_of_marks};
 ghost use Rattle.mf_rows.specs.Heads.{lengths_unit as unit_of_lengths, kept_unit as unit_of_kept};
 ghost use Rattle.mf_rows.specs.Heads.{head_unit as unit_of_head, bit, height_bit};
@@ -10,8 +10,8 @@ ghost use Rattle.mf_rows.specs.FirstUnits.{AreLengths};
 
 use crate::fields::{put_i32, put_u8, put_u16, put_u32, put_u64};
 use crate::head::Head;
+use crate::numbers::number_of_kind;
 use mf_base::kept::{Kept, KeptValue};
-use mf_base::kind::EntityKind;
 
 /// The lengths in bytes of the texts with names of their own, 0 where there is none.
 #[derive(Clone, Copy, Debug, Default, PartialEq, Eq)]
@@ -60,7 +60,7 @@ fn marks_unit(head: &Head) -> [u8; 16]
     put_u8(&mut unit, 11, marks(head));
     put_u8(&mut unit, 10, head.layer.cast_unsigned());
     put_u8(&mut unit, 9, head.zoom);
-    put_u8(&mut unit, 8, number_of(head.kind));
+    put_u8(&mut unit, 8, number_of_kind(head.kind));
     put_u64(&mut unit, 0, head.weight);
     unit
 }
@@ -136,17 +136,6 @@ fn number_of_value(value: KeptValue) -> u32
         KeptValue::Short(n) => u32::from(n.cast_unsigned()),
         KeptValue::Int(n) => n.cast_unsigned(),
         KeptValue::Text { len } => u32::from(len),
-    }
-}
-
-// The number of a kind.
-fn number_of(kind: EntityKind) -> u8
-    ensures { result ≡ kind_number kind }
-{
-    match kind {
-        EntityKind::Node => 0,
-        EntityKind::Way => 1,
-        EntityKind::Relation => 2,
     }
 }
 

@@ -1,15 +1,15 @@
 //! Heads, read of their units.
 
 ghost use Rattle.std.specs.Prelude.{◌≡◌, ◌+◌, ◌≤◌, ◌∷◌, [], length, take, option_map};
-ghost use Rattle.mf_rows.specs.Heads.{HeadTold, head_in, told_by, all_kept, kept_at, value_told, kind_told, has_bit};
+ghost use Rattle.mf_rows.specs.Heads.{HeadTold, head_in, told_by, all_kept, kept_at, value_told, has_bit};
 ghost use Rattle.mf_rows.specs.Heads.{height_told, are_units, head_unit as unit_of_head};
 
 use crate::fields::{get_i32, get_u8, get_u16, get_u32, get_u64};
 use crate::head::Head;
 use crate::head_units::{TextLengths, head_unit};
+use crate::numbers::kind_of_number;
 use arrayvec::ArrayVec;
 use mf_base::kept::{Kept, KeptValue};
-use mf_base::kind::EntityKind;
 
 /// The head that ten units tell, with the lengths of its texts, where they are the units of one.
 pub fn read_head(units: &[[u8; 16]]) -> Option<(Head, TextLengths)>
@@ -35,7 +35,7 @@ fn head_of(first: &[u8; 16], second: &[u8; 16], third: &[u8; 16], more: &[[u8; 1
 {
     let marks = get_u8(second, 11);
     Head {
-        kind: kind_of(get_u8(second, 8)),
+        kind: kind_of_number(get_u8(second, 8)),
         id: get_u64(first, 0),
         number: get_u64(first, 8),
         weight: get_u64(second, 0),
@@ -57,17 +57,6 @@ fn lengths_of(third: &[u8; 16]) -> TextLengths
         name: get_u16(third, 0),
         house: get_u16(third, 2),
         reference: get_u16(third, 4),
-    }
-}
-
-// The kind with a number.
-fn kind_of(number: u8) -> EntityKind
-    ensures { result ≡ kind_told number }
-{
-    match number {
-        0 => EntityKind::Node,
-        1 => EntityKind::Way,
-        _ => EntityKind::Relation,
     }
 }
 

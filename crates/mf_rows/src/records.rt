@@ -1,7 +1,7 @@
 //! Records in a fixed room.
 
 ghost use Rattle.std.specs.Prelude.{◌≡◌, ◌+◌, ◌≤◌, ◌<◌, [], ◌∷◌, ◌++◌, length, take, drop, slice_get, slice_set};
-ghost use Rattle.std.specs.Prelude.{Some, IfOk, IsSome, is_some, IsTrue, ◌↔◌};
+ghost use Rattle.std.specs.Prelude.{Some, IfOk, IsSome, is_some, IsTrue, ◌↔◌, option_map};
 ghost use Rattle.std.specs.List.{AllByRecursion};
 ghost use Rattle.mf_rows.specs.Records.{Record, LiesIn, drawn_parts};
 ghost use Rattle.mf_rows.specs.RecordUnits.{record_in, bytes_in, spans_from, slot_sizes};
@@ -11,7 +11,7 @@ ghost use Rattle.mf_rows.specs.Changes.{LastIs, TakesPart, TakesPoint, with_last
 ghost use Rattle.mf_rows.specs.Changes.{with_feature};
 
 use crate::changes::{part_fits, point_fits, put_feature, put_part, put_point};
-use crate::head::Texts;
+use crate::head::{Head, Texts};
 use crate::told::{Kept, Told, laid_texts, read_record};
 use crate::view::View;
 use mf_base::kind::Role;
@@ -204,6 +204,14 @@ impl Records {
         ensures { result.now ≡ self.now.loose }
     {
         self.units.split_at(self.closed).1
+    }
+
+    /// The head of a record, by its place among all. It costs less than to lend the record.
+    pub fn head(&self, i: u32) -> &Head
+        requires { i < length self.now.records }
+        ensures { Some result.now ≡ option_map (λ (r : Record). r.head) (slice_get self.now.records i) }
+    {
+        &self.kept[i as usize].told.head
     }
 
     /// A record, by its place among all.

@@ -2,11 +2,11 @@
 
 ghost use Rattle.std.specs.Prelude.{◌≡◌, option_map};
 ghost use Rattle.mf_rows.specs.Units.{point_unit as unit_of_point, point_in, part_unit as unit_of_part, part_in};
-ghost use Rattle.mf_rows.specs.Units.{role_number};
 
 use crate::fields::{get_u64, put_u8, put_u64};
 use crate::kind::RowKind;
 use crate::kinds::NodeRow;
+use crate::numbers::number_of_role;
 use mf_base::kind::Role;
 use mf_base::place::Place;
 
@@ -44,18 +44,8 @@ pub fn part_unit(role: Role, points: u64) -> [u8; 16]
 {
     let mut unit = [0; 16];
     put_u64(&mut unit, 1, points);
-    put_u8(&mut unit, 0, byte_of(role));
+    put_u8(&mut unit, 0, number_of_role(role));
     unit
-}
-
-// The number of a role.
-fn byte_of(role: Role) -> u8
-    ensures { result ≡ role_number role }
-{
-    match role {
-        Role::Outer => 0,
-        Role::Inner => 1,
-    }
 }
 
 /// The role and the number of points of a part, where this is its unit.

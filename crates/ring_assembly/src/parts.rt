@@ -2,7 +2,7 @@
 
 ghost use Rattle.std.specs.Prelude.{◌≡◌, ◌+◌, ◌∷◌, ◌++◌, [], ℕ, ◌^◌, ◌<◌, ◌≤◌, List, IfSome, IsNone, length, drop};
 ghost use Rattle.feature_model.specs.Rings as rings;
-ghost use Rattle.mf_rows.specs.Units.{Unit16, role_number};
+ghost use Rattle.mf_rows.specs.Units.{Unit16};
 ghost use Rattle.ring_assembly.specs.Marked.{Marked, State, state_unit, all_units, AreMarked, IsFront, points_in};
 ghost use Rattle.ring_assembly.specs.Marked.{suits, has_end as is_at_end};
 ghost use Rattle.ring_assembly.specs.Found.{FindsFirst};
@@ -10,6 +10,7 @@ ghost use Rattle.ring_assembly.specs.Taken.{IsBench, Takes, UsesUp, units_taken 
 
 use byteorder::{BigEndian, ByteOrder};
 use mf_base::kind::Role;
+use mf_rows::numbers::number_of_role;
 use mf_rows::records::Records;
 use mf_rows::units::read_point_unit;
 
@@ -136,17 +137,7 @@ fn is_wanted(front: &Front<'_>, role: Role, end: Option<u64>) -> bool
     ensures { (m : Marked) (more : List Marked) → IsFront m more front.now.state front.now.points.now front.now.rest.now
         → result ≡ suits role end m }
 {
-    front.state == number_of(role) && has_end(front.points, end)
-}
-
-// The number of a role.
-fn number_of(role: Role) -> u8
-    ensures { result ≡ role_number role }
-{
-    match role {
-        Role::Outer => 0,
-        Role::Inner => 1,
-    }
+    front.state == number_of_role(role) && has_end(front.points, end)
 }
 
 // Whether points have a node at one of their ends, where one is asked for.

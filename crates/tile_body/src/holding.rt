@@ -13,10 +13,10 @@ use crate::class::is_poi;
 use crate::spelled::is_spelled;
 use mf_base::place::Rect;
 use mf_base::tile::{Interval, TilePlace};
+use mf_rows::features::is_feature;
 use mf_rows::records::Records;
 use mf_rows::view::View;
 use tile_assign::rect::rect_of;
-use way_delta::features::is_feature;
 
 /// Whether a desk holds the members of a tile in order: what `encode` asks of it. The desk has at most as many rows as
 /// any.

@@ -5,7 +5,6 @@ ghost use Rattle.mf_rows.specs.RecordUnits.{parts_count};
 ghost use Rattle.mf_rows.specs.Shapes.{IsFeature};
 
 use crate::counts::count_blocks;
-use crate::features::is_feature;
 use crate::measure::measure;
 use crate::put::put_blocks;
 use arrayvec::ArrayVec;
@@ -14,6 +13,7 @@ use mf_base::out_buf::OutBuf;
 use mf_base::place::Place;
 use mf_rows::head::Head;
 use mf_rows::head_units::{TextLengths, head_unit};
+use mf_rows::features::is_feature;
 use mf_rows::records::Records;
 use mf_rows::units::{part_unit, point_unit};
 use mf_rows::view::View;

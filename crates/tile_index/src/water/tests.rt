@@ -2,12 +2,13 @@
 
 ghost use Rattle.std.specs.Prelude.{◌≡◌, ◌<◌, IsTrue};
 ghost use Rattle.std.specs.List.{AllByRecursion};
-ghost use Rattle.mf_rows.specs.Shapes.{IsFeature, AreRings, IsRing};
+ghost use Rattle.mf_rows.specs.Shapes.{IsFeature};
 
 use super::*;
 use arrayvec::ArrayVec;
 use mf_base::kind::Role;
 use mf_base::tile::Interval;
+use mf_rows::features::is_feature;
 use mf_rows::head::Head;
 use mf_rows::head_units::{TextLengths, head_unit};
 use mf_rows::units::{part_unit, point_unit};
@@ -97,38 +98,6 @@ fn are_features(desk: &Desk) -> bool
 {
     for i in 0..desk.records.len() {
         if !is_feature(&desk.records.view(i)) {
-            return false;
-        }
-    }
-    true
-}
-
-// Whether a record is a feature.
-fn is_feature(view: &View<'_>) -> bool
-    ensures { IsTrue result → IsFeature view.now }
-{
-    match view.head().kind {
-        EntityKind::Node => view.point().is_some(),
-        EntityKind::Way | EntityKind::Relation => are_rings(view.rings()),
-    }
-}
-
-// Whether parts are rings, of which the first is outer.
-fn are_rings(mut rings: RingCursor<'_>) -> bool
-    ensures { IsTrue result → AreRings rings.entry }
-{
-    match rings.next() {
-        Some((Role::Outer, points)) => points.len() >= 2 && are_long(rings),
-        Some((Role::Inner, _)) | None => false,
-    }
-}
-
-// Whether parts have at least two points each.
-fn are_long(mut rings: RingCursor<'_>) -> bool
-    ensures { IsTrue result → AllByRecursion IsRing rings.entry }
-{
-    while let Some((_, points)) = rings.next() {
-        if points.len() < 2 {
             return false;
         }
     }

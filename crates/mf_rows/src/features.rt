@@ -4,9 +4,9 @@ ghost use Rattle.std.specs.Prelude.{◌↔◌, IsTrue};
 ghost use Rattle.std.specs.List.{AllByRecursion};
 ghost use Rattle.mf_rows.specs.Shapes.{IsFeature, AreRings, IsRing};
 
+use crate::cursors::RingCursor;
+use crate::view::View;
 use mf_base::kind::{EntityKind, Role};
-use mf_rows::cursors::RingCursor;
-use mf_rows::view::View;
 
 /// Whether a record is a feature: a node with its point, or a way or relation with rings, of which the first is outer
 /// and each has at least two points.

@@ -2,7 +2,7 @@ use Rattle.std.proofs.Common.{length}
 use Rattle.std.specs.Prelude.{◌↔◌}
 use Rattle.std.specs.List.{AllByRecursion}
 use Rattle.mf_rows.specs.Shapes.{IsRing}
-use Rattle.way_delta.proofs.features.are_long.Given as goal
+use Rattle.mf_rows.proofs.features.are_long.Given as goal
 
 -- all are long where those are that are left
 abbrev pub invariant-loop-points : goal.invariant-loop-points
