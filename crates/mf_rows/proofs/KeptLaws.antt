@@ -251,6 +251,13 @@ module _ (units : List Unit16) (kept : List Kept) (closed cap : ℕ) (d : Deskto
       pub close-kept : AreKept units 0 (kept ++ made ∷ []) (closed + (length units - closed))
       close-kept = put-behind units 0 closed kept made is made-kept
 
+      -- as many units are in use
+      pub close-used : used (desktop units (kept ++ made ∷ []) (closed + (length units - closed)) cap) ≡ used d
+      close-used =
+          let all : 0 + units_in (map (record_at units) (kept ++ made ∷ [])) ≡ closed + (length units - closed) =
+          all-counted units 0 (closed + (length units - closed)) (kept ++ made ∷ []) close-kept in
+          omega (arith, all, within, in-use, length-drop (closed + (length units - closed)) units)
+
       -- and there is room for its place
       pub place-left : length units ≤ cap → length kept < cap / 10
       place-left most =
@@ -286,6 +293,12 @@ module _ (units : List Unit16) (kept : List Kept) (closed cap : ℕ) (d : Deskto
 
       pub at-spelled : record_in (units_at units k) ≡ slice_get d.records i
       at-spelled = is-at.told.same ∙ at-record
+
+      pub at-counted : Some (length (units_at units k)) ≡ option_map unit_count (slice_get d.records i)
+      at-counted =
+          let long : length (units_at units k) ≡ k.count =
+          omega (arith, at-within, length-take k.count (drop k.first units), length-drop k.first units) in
+          ap Some (long ∙ sym (one-counted units k.first k is-at)) ∙ ap (option_map unit_count) at-record
 
     -- the last record becomes loose units
     module _ (none : d.loose ≡ []) (front : List Kept) (k : Kept) (last : kept ≡ front ++ k ∷ []) where

@@ -4,7 +4,7 @@ ghost use Rattle.std.specs.Prelude.{◌≡◌, ◌+◌, ◌≤◌, ◌<◌, [], 
 ghost use Rattle.std.specs.Prelude.{Some, IfOk, IsSome, is_some, IsTrue, ◌↔◌, option_map};
 ghost use Rattle.std.specs.List.{AllByRecursion};
 ghost use Rattle.mf_rows.specs.Records.{Record, LiesIn, drawn_parts};
-ghost use Rattle.mf_rows.specs.RecordUnits.{record_in, bytes_in, spans_from, slot_sizes};
+ghost use Rattle.mf_rows.specs.RecordUnits.{record_in, bytes_in, spans_from, slot_sizes, unit_count};
 ghost use Rattle.mf_rows.specs.Told.{units_at, head_told, record_told};
 ghost use Rattle.mf_rows.specs.Desks.{used, IsLoosened, closed as with_record};
 ghost use Rattle.mf_rows.specs.Changes.{LastIs, TakesPart, TakesPoint, with_last, with_new_part, with_new_point};
@@ -115,6 +115,7 @@ impl Records {
     pub fn close_record(&mut self) -> bool
         ensures is { result ≡ is_some (record_in self.old.loose) }
         ensures closed { self.new ≡ with_record self.old }
+        ensures used { used self.new ≡ used self.old }
     {
         match read_record(self.units.split_at(self.closed).1) {
             Some(told) => {
@@ -227,6 +228,7 @@ impl Records {
     pub fn units(&self, i: u32) -> &[[u8; 16]]
         requires { i < length self.now.records }
         ensures spelled { record_in result.now ≡ slice_get self.now.records i }
+        ensures many { Some (length result.now) ≡ option_map unit_count (slice_get self.now.records i) }
         ensures first { 10 ≤ length result.now }
     {
         units_of(&self.units, &self.kept[i as usize])
