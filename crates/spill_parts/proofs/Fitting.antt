@@ -1,5 +1,8 @@
 -- Rows that are still to be put fit the limit of a part.
-use Rattle.std.proofs.Common.{◌≡◌, ℕ, ◌+◌, ◌*◌, ◌≤◌, Bool, true, List, ◌∷◌, ◌++◌, length, Some, sym, ap, subst, ◌∙◌, arith}
+use Rattle.std.proofs.Common.{◌≡◌, ℕ, suc, ◌+◌, ◌*◌, ◌≤◌, Bool, true, List, ◌∷◌, ◌++◌, length, Some}
+use Rattle.std.proofs.Common.{sym, ap, subst, ◌∙◌, arith}
+use Rattle.std.proofs.Math.Nat.{mul-add, mul-suc}
+use Rattle.std.proofs.lemmas.List.{length-append}
 use Rattle.std.specs.Prelude.{◌==◌, find}
 use Rattle.spill_parts.specs.Parts.{Part, GivesNext}
 use Rattle.spill_parts.specs.Join.{joined_rows, one_joined}
@@ -34,3 +37,17 @@ joined_fits {R} {N} {O} ref_key node_key join width limit source nodes same tell
     subst (λ (p : Part N). width * length out + width * length
     (one_joined join row (find (λ (n : N). node_key n == ref_key row) p.rows)) ≤ limit) (sym same)
     (first_of_all width limit out one (J left_now) (J refs) all fits)
+
+-- where there is room for all rows, there is room for the first of those that are left
+pub still_within : {K : Type 0} (width limit : ℕ) (here left first all : List K) (row : K)
+    → here ++ row ∷ left ≡ first ++ all → width * (length first + length all) ≤ limit
+    → width * length here + width ≤ limit
+still_within width limit here left first all row same le =
+    let long : length here + suc (length left) ≡ length first + length all =
+    sym (length-append here (row ∷ left)) ∙ ap length same ∙ length-append first all in
+    let spread : width * (length here + suc (length left)) ≡ width * length here + width * suc (length left) =
+    mul-add width (length here) (suc (length left)) in
+    let one : width * suc (length left) ≡ width * length left + width = mul-suc width (length left) in
+    let total : width * (length here + suc (length left)) ≡ width * (length first + length all) =
+    ap (λ n. width * n) long in
+    omega arith

@@ -7,6 +7,7 @@ mod lookup;
 mod merge;
 mod part;
 mod reader;
+mod rows;
 #[cfg(test)]
 mod test_parts;
 mod told;
@@ -19,6 +20,7 @@ pub use lookup::{Keyed, Lookup};
 pub use merge::{JoinOf, join};
 pub use part::{Part, forget_part, order_part};
 pub use reader::{Page, Reader};
+pub use rows::{Rows, put_rows};
 pub use told::Told;
 pub use uses::copy;
 pub use writer::Writer;
