@@ -1,6 +1,6 @@
 -- The rows of records, one record behind another. This project's own.
 use Rattle.std.specs.Prelude.{ℕ, ◌==◌, not, Bool, false, if◌then◌else◌, List, [], ◌∷◌, map, drop, Option, Some}
-use Rattle.std.specs.Prelude.{None}
+use Rattle.std.specs.Prelude.{None, ⊤, ◌≡◌}
 use Rattle.std.specs.List.{enumerate_from}
 use Rattle.mf_rows.specs.Units.{Unit16}
 
@@ -31,3 +31,8 @@ goes_on place (Some row) = not (place row == 0)
 abbrev pub held_units : {K : Type 0} → (K → Unit16) → Option K → List Unit16
 held_units unit None = []
 held_units unit (Some row) = unit row ∷ []
+
+-- rows begin with the first row of a record, or there are none
+abbrev pub BeginsRecord : {K : Type 0} → (K → ℕ) → List K → Type 0
+BeginsRecord place [] = ⊤
+BeginsRecord place (row ∷ rows) = place row ≡ 0
