@@ -7,3 +7,5 @@ pub mod Takings
 pub mod RowBytes
 pub mod Growth
 pub mod RingGrowth
+pub mod LastRings
+pub mod RingsFound

@@ -28,7 +28,7 @@ use Rattle.ring_assembly.proofs.Growth.{points-append, added-is, first-kept, las
 
 -- ---- the first of pieces that fits is one fewer
 
-units-cons : (p : Piece) (pieces : List Piece)
+pub units-cons : (p : Piece) (pieces : List Piece)
     → units_of_pieces (p ∷ pieces) ≡ 1 + length p.points + units_of_pieces pieces
 units-cons p pieces = sum_by-cons (λ (q : Piece). 1 + length q.points) p pieces
 

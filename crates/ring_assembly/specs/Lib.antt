@@ -5,3 +5,5 @@ pub mod Taken
 pub mod Rows
 pub mod Added
 pub mod Joining
+pub mod Laid
+pub mod JoiningParts
