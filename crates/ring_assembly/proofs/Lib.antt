@@ -9,3 +9,8 @@ pub mod Growth
 pub mod RingGrowth
 pub mod LastRings
 pub mod RingsFound
+pub mod Putting
+pub mod BlockRows
+pub mod BlockParts
+pub mod Assembling
+pub mod Relations

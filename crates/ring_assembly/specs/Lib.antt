@@ -7,3 +7,6 @@ pub mod Added
 pub mod Joining
 pub mod Laid
 pub mod JoiningParts
+pub mod PutBack
+pub mod Shown
+pub mod Assembled
