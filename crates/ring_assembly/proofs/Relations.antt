@@ -1,7 +1,7 @@
 -- The one relation of a desk: its loose units, and the record that they spell once its blocks are put back.
 use Rattle.std.proofs.Common.{◌≡◌, ℕ, ◌+◌, ◌*◌, ◌-◌, ◌≤◌, true, false, List, [], ◌∷◌, ◌++◌, length}
 use Rattle.std.proofs.Common.{map, take, drop, Option, Some, None, Ok, Err, refl, sym, ap, ◌∙◌, arith, subst}
-use Rattle.std.specs.Prelude.{unwrap_or, is_some, slice_get}
+use Rattle.std.specs.Prelude.{Bool, unwrap_or, is_some, slice_get, option_map, IsTrue, ◌↔◌}
 use Rattle.std.proofs.lemmas.Option.{none-some, same_Some}
 use Rattle.std.proofs.lemmas.List.{length-append, length-drop, same_from_push}
 use Rattle.mf_base.specs.declared.kind.EntityKind.{EntityKind}
@@ -11,6 +11,7 @@ use Rattle.feature_model.specs.Points.{Part}
 use Rattle.feature_model.specs.Rings.{Piece}
 use Rattle.feature_model.specs.Blocks.{JoinedBlock, pieces_of, relation_blocks, joined_parts}
 use Rattle.feature_model.proofs.BlockBounds.{relation_blocks-none, relation_blocks-some}
+use Rattle.mf_rows.specs.declared.head.Head.{Head}
 use Rattle.mf_rows.specs.Units.{Unit16, parts_in}
 use Rattle.mf_rows.specs.Records.{Record, spot_in, drawn_parts}
 use Rattle.mf_rows.specs.RecordUnits.{AreWide, front_count, spot_count, parts_count, is_drawn, record_in, redrawn}
@@ -35,6 +36,24 @@ one-relation : (records : List Record) → IsRelation records → IsOne records
 one-relation [] holds = absurd holds
 one-relation (r ∷ []) holds = record { r = r; is = refl; kind = holds }
 one-relation (r ∷ s ∷ more) holds = absurd holds
+
+-- a desk of one record, and whether that is a relation
+pub holds-by : (d : Desktop) (h : Head) (b : Bool) → length d.records ≡ 1 → d.loose ≡ []
+    → Some h ≡ option_map (λ (r : Record). r.head) (slice_get d.records 0)
+    → (IsTrue b ↔ (h.kind ≡ EntityKind.Relation)) → IsTrue b ↔ HoldsRelation d
+holds-by d h b one empty first is =
+    let found = by_list d.records one first in
+    ((λ t. (found.0 t, empty)), (λ holds. found.1 holds.0))
+  where
+    by_list : (rs : List Record) → length rs ≡ 1 → Some h ≡ option_map (λ (r : Record). r.head) (slice_get rs 0)
+        → IsTrue b ↔ IsRelation rs
+    by_list [] count e = absurd (omega (arith, count))
+    by_list (r ∷ []) count e =
+        let same : h ≡ r.head = same_Some h r.head e in (
+          (λ t. ap (λ (x : Head). x.kind) (sym same) ∙ is.0 t),
+          (λ kind. is.1 (ap (λ (x : Head). x.kind) same ∙ kind)),
+        )
+    by_list (r ∷ s ∷ more) count e = absurd (omega (arith, count))
 
 -- what a relation is drawn from
 drawn-parts : (r : Record) (units : List Unit16) → r.head.kind ≡ EntityKind.Relation

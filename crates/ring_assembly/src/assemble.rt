@@ -1,6 +1,7 @@
 //! The parts of a relation become blocks of rings.
 
-ghost use Rattle.std.specs.Prelude.{◌≡◌, ◌*◌, ◌≤◌, ◌^◌, ◌<◌, []};
+ghost use Rattle.std.specs.Prelude.{◌≡◌, ◌*◌, ◌≤◌, ◌^◌, ◌<◌, [], IsTrue, ◌↔◌};
+ghost use Rattle.mf_base.specs.declared.kind.EntityKind.{EntityKind};
 ghost use Rattle.feature_model.specs.Blocks.{relation_blocks};
 ghost use Rattle.mf_rows.specs.Desks.{used};
 ghost use Rattle.mf_rows.specs.RecordUnits.{parts_count};
@@ -12,7 +13,7 @@ use crate::laid::Laid;
 use crate::put_back::put_blocks;
 use crate::rows::are_wide;
 use feature_model::fault::RingFault;
-use mf_base::kind::Role;
+use mf_base::kind::{EntityKind, Role};
 use mf_base::out_buf::OutBuf;
 use mf_rows::cursors::RingCursor;
 use mf_rows::desk::Desk;
@@ -46,6 +47,29 @@ pub fn assemble(desk: &mut Desk) -> Result<(), RingFault>
             desk.records.clear();
             Err(why)
         }
+    }
+}
+
+/// Whether records are one relation, without loose units.
+pub fn holds_relation(records: &Records) -> bool
+    ensures { IsTrue result ↔ HoldsRelation records.now }
+{
+    if records.len() != 1 {
+        return false;
+    }
+    if !records.loose().is_empty() {
+        return false;
+    }
+    is_relation(records.head(0).kind)
+}
+
+// Whether a kind is that of relations.
+fn is_relation(kind: EntityKind) -> bool
+    ensures { IsTrue result ↔ (kind ≡ EntityKind.Relation) }
+{
+    match kind {
+        EntityKind::Relation => true,
+        EntityKind::Node | EntityKind::Way => false,
     }
 }
 

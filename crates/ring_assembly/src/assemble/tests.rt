@@ -1,5 +1,8 @@
 //! Relations whose rings are joined, and those that are refused.
 
+ghost use Rattle.std.specs.Prelude.{IsTrue};
+ghost use Rattle.ring_assembly.specs.Assembled.{HoldsRelation};
+
 use super::*;
 use arrayvec::ArrayVec;
 use mf_base::kind::EntityKind;
@@ -59,24 +62,25 @@ fn put_part(desk: &mut Desk, part: Nodes) -> bool {
     fits
 }
 
-// Puts a relation of these parts.
-fn put_relation(desk: &mut Desk, parts: &[Nodes]) -> bool {
+// Puts a head.
+fn put_head(desk: &mut Desk) -> bool {
     let head = head();
     let mut fits = true;
     for i in 0..10usize {
         fits = fits && put(desk, &head_unit(&head, NO_TEXT, i));
     }
+    fits
+}
+
+// Puts a relation of these parts.
+fn put_relation(desk: &mut Desk, parts: &[Nodes]) -> bool
+    ensures { IsTrue result → HoldsRelation desk.new.records }
+{
+    let mut fits = put_head(desk);
     for part in parts {
         fits = fits && put_part(desk, *part);
     }
-    fits && desk.records.close_record() && is_ready(desk)
-}
-
-// Whether the desk has one relation, and nothing else.
-fn is_ready(desk: &Desk) -> bool {
-    desk.records.len() == 1
-        && desk.records.loose().is_empty()
-        && desk.records.view(0).head().kind == EntityKind::Relation
+    fits && desk.records.close_record() && holds_relation(&desk.records)
 }
 
 // Whether the points of a ring are these nodes.
@@ -257,5 +261,67 @@ fn refused_parts(rt: HostRuntime) -> Result<(), Fail> {
         assert_eq!(rt; desk.records.spare(), 80);
         assert!(rt; desk.out.bytes().is_empty());
     }
+    Ok(())
+}
+
+// How many parts the ring of many parts has.
+const MANY: u64 = 10_000;
+
+// Puts the point of a node.
+fn put_node(desk: &mut Desk, node: u64) -> bool {
+    put(desk, &point_unit(node, Place { lat: 0, lon: 0 }))
+}
+
+// Puts a relation whose parts are the edges of one ring through the nodes below `MANY`, the last first, each other one
+// from its greater node to its smaller.
+fn put_edges(desk: &mut Desk) -> bool
+    ensures { IsTrue result → HoldsRelation desk.new.records }
+{
+    let mut fits = put_head(desk);
+    for i in 0..MANY {
+        let from = MANY - 1 - i;
+        let to = (from + 1) % MANY;
+        let (first, last) = if i % 2 == 0 { (from, to) } else { (to, from) };
+        fits = fits
+            && put(desk, &part_unit(OUTER, 2))
+            && put_node(desk, first)
+            && put_node(desk, last);
+    }
+    fits && desk.records.close_record() && holds_relation(&desk.records)
+}
+
+// Whether points are those of the ring: the last node, and then all from 0 on.
+fn are_edges(mut points: PointCursor<'_>) -> bool {
+    for i in 0..MANY + 1 {
+        match points.next() {
+            Some((node, _)) => {
+                if node != (MANY - 1 + i) % MANY {
+                    return false;
+                }
+            }
+            None => return false,
+        }
+    }
+    points.next().is_none()
+}
+
+// Whether the relation has that ring alone.
+fn is_ring_of_edges(desk: &Desk) -> bool {
+    if desk.records.len() != 1 {
+        return false;
+    }
+    let mut found = desk.records.view(0).rings();
+    match found.next() {
+        Some((_, points)) => are_edges(points) && found.next().is_none(),
+        None => false,
+    }
+}
+
+#[test]
+fn ring_of_many_parts(rt: HostRuntime) -> Result<(), Fail> {
+    let mut desk = Desk::new(rt.alloc(), 30_010)?;
+    assert!(rt; put_edges(&mut desk));
+    assert!(rt; assemble(&mut desk).is_ok());
+    assert!(rt; is_ring_of_edges(&desk));
     Ok(())
 }
