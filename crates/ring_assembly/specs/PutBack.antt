@@ -11,7 +11,7 @@ use Rattle.ring_assembly.specs.Rows.{rows_in, row_total}
 use Rattle.ring_assembly.specs.Laid.{LaidRing, AreRowsOf}
 use Rattle.ring_assembly.specs.declared.laid.Laid.{Laid}
 
--- units of a point or a part stand in the place of the loose units from here to there, and the rest of the desk stays
+-- these units stand in the place of the loose units from here to there, and the rest of the desk stays
 pub record Puts (old new : Desktop) (begin end : ℕ) (units : List Unit16) : Type 0 where
   pub place : begin + length units ≡ end
   pub loose : new.loose ≡ take begin old.loose ++ (units ++ drop end old.loose)
