@@ -252,3 +252,8 @@ module _ (old lo : Desktop) (holds : HoldsRelation old) (loosened : IsLoosened o
             closed-is found new last (subst (λ (n : ℕ). HasBlocks n found lo new) at put) shut
                 ∙ sym (ap (λ o. assembled o old) blocks),
           )
+
+      -- and there are no more units than before
+      pub no-more : (new last : Desktop) → JoinsAll front (Ok tt) lo new → used last ≡ used new → used last ≤ used old
+      no-more new last (found, is, put) same =
+          omega (arith, same, put.few, ap units_in put.records, loosened.same_use)

@@ -27,6 +27,7 @@ pub fn assemble(desk: &mut Desk) -> Result<(), RingFault>
     requires relation { HoldsRelation desk.old.records }
     ensures result { result ≡ outcome (relation_blocks (parts_held desk.old.records)) }
     ensures records { desk.new.records ≡ assembled (relation_blocks (parts_held desk.old.records)) desk.old.records }
+    ensures used { used desk.new.records ≤ used desk.old.records }
     ensures out { desk.new.out ≡ record { bytes = []; capacity = desk.old.out.capacity } }
     ensures water { desk.new.water ≡ desk.old.water }
 {

@@ -2,8 +2,9 @@ use Rattle.std.proofs.Common.{◌≡◌, ◌∙◌, ◌+◌, ◌*◌, ◌-◌, �
 use Rattle.mf_base.specs.Buffer.{Buffer}
 use Rattle.mf_rows.specs.Units.{Unit16}
 use Rattle.mf_rows.specs.RecordUnits.{AreWide, parts_count}
+use Rattle.mf_rows.specs.Desks.{used}
 use Rattle.ring_assembly.proofs.Relations.{parts-first, parts-few, behind-few, front-is, bench-at, room-at, refused}
-use Rattle.ring_assembly.proofs.Relations.{joined}
+use Rattle.ring_assembly.proofs.Relations.{joined, no-more}
 use Rattle.ring_assembly.proofs.assemble.assemble.Goals as goal
 
 pub unit_count-behind-requires : goal.unit_count-behind-requires
@@ -81,6 +82,21 @@ returns-in-Ok-clause-records c =
     (joined d lo c.requires.relation c.loosen.ensures wide few front at c.join_all-joined.new.records
     c.close_record.new.self c.in-Ok.ensures.joined c.close_record.ensures.closed).1
 
+pub returns-in-Ok-clause-used : goal.returns-in-Ok-clause-used
+returns-in-Ok-clause-used c =
+    let d = c.args.desk.now.records in
+    let lo = c.loosen.new.self in
+    let wide = subst AreWide c.loose.ensures c.are_wide.ensures in
+    let behind = c.unit_count-behind.ensures ∙ ap parts_count (c.rings.ensures
+    ∙ parts-first d c.view.result c.view.ensures) in
+    let few : length lo.loose ≤ 16777216 =
+    omega (arith, c.has_room.ensures.rest, c.has_room.ensures.most, c.loosen.ensures.same_use) in
+    let at = ap (λ (us : List Unit16). length us - c.unit_count-behind.result) c.loose-2.ensures
+    ∙ front-is d lo c.requires.relation c.loosen.ensures wide c.unit_count-behind.result behind in
+    let front = length c.loose-2.result.now - c.unit_count-behind.result in
+    no-more d lo c.requires.relation c.loosen.ensures wide few front at c.join_all-joined.new.records
+    c.close_record.new.self c.in-Ok.ensures.joined c.close_record.ensures.used
+
 pub returns-in-Err-clause-result : goal.returns-in-Err-clause-result
 returns-in-Err-clause-result c =
     let d = c.args.desk.now.records in
@@ -110,3 +126,6 @@ returns-in-Err-clause-records c =
     let front = length c.loose-2.result.now - c.unit_count-behind.result in
     (refused d lo c.requires.relation c.loosen.ensures wide few front at c.in-Err.why c.join_all-joined.new.records
     c.clear-in-Err.new.self c.in-Err.ensures.joined c.clear-in-Err.ensures).1
+
+pub returns-in-Err-clause-used : goal.returns-in-Err-clause-used
+returns-in-Err-clause-used c = omega (arith, ap used c.clear-in-Err.ensures)
