@@ -15,8 +15,9 @@ use Rattle.feature_model.proofs.Totals.{total, count-total}
 use Rattle.map_model.specs.Members.{is_poi, is_way}
 use Rattle.map_model.specs.Intervals.{raised_zoom}
 use Rattle.mf_rows.specs.Records.{Record, candidate_told}
+use Rattle.mf_rows.specs.declared.head.Head.{Head}
 use Rattle.mf_rows.specs.Shapes.{feature_told}
-use Rattle.tile_body.specs.Tables.{AreCounts, AreFew, one_more, counted_in, level_bytes, levels_bytes}
+use Rattle.tile_body.specs.Tables.{AreCounts, AreFew, one_more, counted_if, level_bytes, levels_bytes}
 use Rattle.tile_body.specs.Tiles.{features_told, count_at, counts_at, table_bytes}
 use Rattle.tile_body.proofs.Classes.{drop-next}
 use Rattle.way_delta.proofs.Writing.{Completes, completes-part, completes-more, completes-all, completes-front}
@@ -104,7 +105,8 @@ at_most_one false = omega arith
 
 pub counts-more : (class : Feature → Bool) (interval : Interval) (records : List Record) (i : ℕ) (r : Record)
     (counts next : List ℕ) → Some r ≡ slice_get records i → (feature_told r).zoom ≤ interval.max
-    → interval.min ≤ interval.max → interval.max ≤ 21 → next ≡ counted_in class interval (feature_told r) counts
+    → interval.min ≤ interval.max → interval.max ≤ 21
+    → next ≡ counted_if (class (feature_told r)) counts (raised_zoom interval (feature_told r).zoom)
     → CountsSoFar class interval records i counts → CountsSoFar class interval records (i + 1) next
 counts-more class interval records i r counts next is low range top e h =
     subst (CountsSoFar class interval records (i + 1)) (sym e) (by_class (class (feature_told r)) refl)
@@ -141,27 +143,25 @@ counts-more class interval records i r counts next is low range top e h =
     }
 
 pub counts-record : (class : Feature → Bool) (interval : Interval) (records : List Record) (i : ℕ) (r : Record)
-    (counts next : List ℕ) → Some r ≡ slice_get records i → r.head.zoom ≤ interval.max
-    → interval.min ≤ interval.max → interval.max ≤ 21 → next ≡ counted_in class interval (feature_told r) counts
+    (head : Head) (belongs : Bool) (counts next : List ℕ) → Some r ≡ slice_get records i → head ≡ r.head
+    → class (feature_told r) ≡ belongs → r.head.zoom ≤ interval.max → interval.min ≤ interval.max
+    → interval.max ≤ 21 → next ≡ counted_if belongs counts (raised_zoom interval head.zoom)
     → CountsSoFar class interval records i counts → CountsSoFar class interval records (i + 1) next
 unfolding feature_told candidate_told
-counts-record class interval records i r counts next is low range top e h =
-    counts-more class interval records i r counts next is low range top e h
+counts-record class interval records i r head belongs counts next is same is_of low range top e h =
+    counts-more class interval records i r counts next is low range top
+    (e ∙ ap (λ (one : Head). counted_if belongs counts (raised_zoom interval one.zoom)) same
+    ∙ ap (λ b. counted_if b counts (raised_zoom interval r.head.zoom)) (sym is_of)) h
 
--- a record that is counted, or is not
-pub counted-yes : (class : Feature → Bool) (interval : Interval) (r : Record) (counts : List ℕ) (zoom : ℕ)
-    → class (feature_told r) ≡ true → zoom ≡ raised_zoom interval r.head.zoom
-    → slice_set counts zoom (get_or counts zoom 0 + 1) ≡ counted_in class interval (feature_told r) counts
-unfolding feature_told candidate_told
-counted-yes class interval r counts zoom is e =
-    ap (one_more counts) e
-    ∙ ap (λ b. cond b (one_more counts (raised_zoom interval r.head.zoom)) counts) (sym is)
+-- one more is counted, or is not
+pub counted-yes : (belongs : Bool) (counts : List ℕ) (zoom level : ℕ) → belongs ≡ true → level ≡ zoom
+    → slice_set counts level (get_or counts level 0 + 1) ≡ counted_if belongs counts zoom
+counted-yes belongs counts zoom level is e =
+    ap (one_more counts) e ∙ ap (λ b. counted_if b counts zoom) (sym is)
 
-pub counted-no : (class : Feature → Bool) (interval : Interval) (r : Record) (counts : List ℕ)
-    → class (feature_told r) ≡ false → counts ≡ counted_in class interval (feature_told r) counts
-unfolding feature_told candidate_told
-counted-no class interval r counts is =
-    ap (λ b. cond b (one_more counts (raised_zoom interval r.head.zoom)) counts) (sym is)
+pub counted-no : (belongs : Bool) (counts : List ℕ) (zoom : ℕ) → belongs ≡ false
+    → counts ≡ counted_if belongs counts zoom
+counted-no belongs counts zoom is = ap (λ b. counted_if b counts zoom) (sym is)
 
 -- ---- putting
 

@@ -4,7 +4,7 @@ use Rattle.std.specs.List.{AllByRecursion}
 use Rattle.mf_base.specs.Spelling.{vbe_unsigned}
 use Rattle.mf_base.specs.declared.tile.Interval.{Interval}
 use Rattle.feature_model.specs.Features.{Feature}
-use Rattle.map_model.specs.Intervals.{raised_zoom, zooms}
+use Rattle.map_model.specs.Intervals.{zooms}
 use Rattle.mf_rows.specs.Records.{Record}
 use Rattle.tile_body.specs.Tiles.{count_at}
 
@@ -24,9 +24,9 @@ AreFew counts = (z : ℕ) → get_or counts z 0 + 1 < 2 ^ 32
 abbrev pub one_more : List ℕ → ℕ → List ℕ
 one_more counts zoom = slice_set counts zoom (get_or counts zoom 0 + 1)
 
--- a feature is counted where it is of a class
-abbrev pub counted_in : (Feature → Bool) → Interval → Feature → List ℕ → List ℕ
-counted_in class interval f counts = if class f then one_more counts (raised_zoom interval f.zoom) else counts
+-- one more is counted of this zoom level, or not
+abbrev pub counted_if : Bool → List ℕ → ℕ → List ℕ
+counted_if belongs counts zoom = if belongs then one_more counts zoom else counts
 
 -- the numbers of one zoom level
 abbrev pub level_bytes : List ℕ → List ℕ → ℕ → List ℕ

@@ -1,6 +1,6 @@
 -- The bytes of a tile's members, by records: Mapsforge Specification, Binary Map File Format, version 5, on tile
 -- header.
-use Rattle.std.specs.Prelude.{ℕ, ◌==◌, Bool, if◌then◌else◌, List, [], ◌++◌, map, filter, flat_map, count_by}
+use Rattle.std.specs.Prelude.{ℕ, ◌==◌, Bool, List, ◌++◌, map, filter, flat_map, count_by}
 use Rattle.mf_base.specs.Spelling.{vbe_unsigned}
 use Rattle.mf_base.specs.declared.place.Place.{Place}
 use Rattle.mf_base.specs.declared.tile.Interval.{Interval}
@@ -33,10 +33,6 @@ table_bytes interval fs = flat_map (counts_at interval fs) (zooms interval)
 -- the bytes of a class of features
 unfoldable pub class_bytes : (Feature → List ℕ) → (Feature → Bool) → List Feature → List ℕ
 class_bytes bytes class fs = flat_map bytes (filter class fs)
-
--- those of a feature, where it is of a class
-abbrev pub part_of : (Feature → List ℕ) → (Feature → Bool) → Feature → List ℕ
-part_of bytes class f = if class f then bytes f else []
 
 -- those of the POIs
 abbrev pub pois_bytes : Place → List Feature → List ℕ

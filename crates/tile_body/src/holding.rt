@@ -4,7 +4,6 @@ ghost use Rattle.std.specs.Prelude.{◌≡◌, ◌↔◌, ◌<◌, ◌≤◌, So
 ghost use Rattle.mf_base.specs.Ranges.{is_on_earth};
 ghost use Rattle.feature_model.specs.Proper.{AllPlaces};
 ghost use Rattle.map_model.specs.Members.{StandsBefore};
-ghost use Rattle.map_model.specs.Room.{rows_limit};
 ghost use Rattle.mf_rows.specs.Shapes.{IsFeature, shape_told, feature_told};
 ghost use Rattle.tile_body.specs.Members.{IsMember, HoldsMembers, IsNext, last_of};
 ghost use Rattle.tile_body.specs.Tested.{has_near_sides, is_no_higher as is_no_higher_told, stands_before as stands_told};
@@ -18,12 +17,11 @@ use mf_rows::records::Records;
 use mf_rows::view::View;
 use tile_assign::rect::rect_of;
 
-/// Whether a desk holds the members of a tile in order: what `encode` asks of it. The desk has at most as many rows as
-/// any.
+/// Whether a desk holds the members of a tile in order: what `encode` asks of it.
 pub fn holds_members(records: &Records, tile: &TilePlace) -> bool
-    requires room { records.now.capacity ≤ rows_limit }
     ensures { IsTrue result ↔ HoldsMembers tile.now records.now }
 {
+    prove!(records.spare() <= 16_777_216);
     let mut i = 0;
     while i < records.len() {
         if !is_next(records, i, &tile.interval) {
@@ -89,10 +87,10 @@ fn is_behind(records: &Records, i: u32, view: &View, interval: &Interval) -> boo
 fn stands_before(before: &View, view: &View, interval: &Interval) -> bool
     ensures { result ≡ stands_told interval.now before.now view.now }
 {
-    if is_poi(before) {
-        is_no_higher(before, view, interval) || !is_poi(view)
+    if is_poi(before.head()) {
+        is_no_higher(before, view, interval) || !is_poi(view.head())
     } else {
-        is_no_higher(before, view, interval) && !is_poi(view)
+        is_no_higher(before, view, interval) && !is_poi(view.head())
     }
 }
 

@@ -3,14 +3,11 @@
 ghost use Rattle.std.specs.Prelude.{◌≡◌, ◌+◌, ◌≤◌, ◌<◌, ◌^◌, length};
 ghost use Rattle.std.specs.List.{AllByRecursion};
 ghost use Rattle.mf_base.specs.Buffer.{HasRoom, AppendsTo};
-ghost use Rattle.map_model.specs.Members.{is_poi, is_way};
 ghost use Rattle.map_model.specs.Room.{rows_limit};
-ghost use Rattle.map_model.specs.TileBytes.{tile_corner, poi_bytes};
+ghost use Rattle.map_model.specs.TileBytes.{tile_corner};
 ghost use Rattle.mf_rows.specs.Desks.{units_in};
-ghost use Rattle.mf_rows.specs.RecordUnits.{unit_count};
-ghost use Rattle.mf_rows.specs.Shapes.{feature_told};
 ghost use Rattle.tile_body.specs.Members.{IsTile, IsMember};
-ghost use Rattle.tile_body.specs.Tiles.{features_told, part_of, pois_bytes, way_in, ways_bytes};
+ghost use Rattle.tile_body.specs.Tiles.{features_told, pois_bytes, ways_bytes};
 
 use crate::class::is_poi;
 use crate::poi::{put_poi, size_poi};
@@ -20,7 +17,6 @@ use mf_base::out_buf::OutBuf;
 use mf_base::place::Place;
 use mf_base::tile::TilePlace;
 use mf_rows::records::Records;
-use mf_rows::view::View;
 
 /// How many bytes the POIs take.
 pub(crate) fn size_pois(records: &Records, corner: Place) -> u64
@@ -31,7 +27,9 @@ pub(crate) fn size_pois(records: &Records, corner: Place) -> u64
     let mut size = 0;
     let mut i = 0;
     while i < records.len() {
-        size += size_if_poi(&records.view(i), corner);
+        if is_poi(records.head(i)) {
+            size += size_poi(&records.view(i), corner);
+        }
         i += 1;
     }
     size
@@ -45,7 +43,9 @@ pub(crate) fn put_pois(out: &mut OutBuf, records: &Records, corner: Place)
 {
     let mut i = 0;
     while i < records.len() {
-        put_if_poi(out, &records.view(i), corner);
+        if is_poi(records.head(i)) {
+            put_poi(out, &records.view(i), corner);
+        }
         i += 1;
     }
 }
@@ -67,45 +67,9 @@ pub(crate) fn put_ways(
 {
     let mut i = 0;
     while i < records.len() {
-        put_if_way(out, &records.view(i), tile, corner, rows);
+        if !is_poi(records.head(i)) {
+            put_way(out, &records.view(i), tile, corner, rows);
+        }
         i += 1;
-    }
-}
-
-// How many bytes `put_if_poi` puts.
-fn size_if_poi(view: &View, corner: Place) -> u64
-    requires member { IsMember view.now }
-    requires few { length (part_of (poi_bytes corner) is_poi (feature_told view.now)) < 2 ^ 32 }
-    ensures size { result ≡ length (part_of (poi_bytes corner) is_poi (feature_told view.now)) }
-{
-    if is_poi(view) {
-        size_poi(view, corner)
-    } else {
-        0
-    }
-}
-
-// Puts a record where it is a POI.
-fn put_if_poi(out: &mut OutBuf, view: &View, corner: Place)
-    requires member { IsMember view.now }
-    requires room { HasRoom out.old (length (part_of (poi_bytes corner) is_poi (feature_told view.now)) + 10) }
-    ensures appends { AppendsTo out.old out.new (part_of (poi_bytes corner) is_poi (feature_told view.now)) }
-{
-    if is_poi(view) {
-        put_poi(out, view, corner);
-    }
-}
-
-// Puts a record where it is a way of the map.
-fn put_if_way(out: &mut OutBuf, view: &View, tile: &TilePlace, corner: Place, rows: &Rows)
-    requires tile { IsTile tile.now }
-    requires member { IsMember view.now }
-    requires corner { corner ≡ tile_corner tile.now }
-    requires light { unit_count view.now ≤ rows_limit }
-    requires room { HasRoom out.old (length (part_of (way_in tile.now) is_way (feature_told view.now)) + 10) }
-    ensures appends { AppendsTo out.old out.new (part_of (way_in tile.now) is_way (feature_told view.now)) }
-{
-    if !is_poi(view) {
-        put_way(out, view, tile, corner, rows);
     }
 }

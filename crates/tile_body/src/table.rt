@@ -1,19 +1,19 @@
 //! The zoom table of a tile.
 
-ghost use Rattle.std.specs.Prelude.{◌≡◌, ℕ, ◌+◌, ◌≤◌, ◌<◌, ◌^◌, length, get_or, slice_set, map};
+ghost use Rattle.std.specs.Prelude.{◌≡◌, ℕ, ◌+◌, ◌≤◌, ◌<◌, ◌^◌, length, get_or, slice_set, map, not};
 ghost use Rattle.std.specs.List.{AllByRecursion};
 ghost use Rattle.mf_base.specs.Buffer.{HasRoom, AppendsTo};
-ghost use Rattle.map_model.specs.Members.{is_poi, is_way};
+ghost use Rattle.map_model.specs.Members.{is_node_kind, is_poi, is_way};
+ghost use Rattle.map_model.specs.Intervals.{raised_zoom};
 ghost use Rattle.tile_body.specs.Tiles.{features_told, count_at, table_bytes};
-ghost use Rattle.mf_rows.specs.Shapes.{feature_told};
-ghost use Rattle.tile_body.specs.Tables.{AreLow, AreCounts, AreFew, counted_in, levels_bytes};
+ghost use Rattle.tile_body.specs.Tables.{AreLow, AreCounts, AreFew, counted_if, levels_bytes};
 
 use crate::class::is_poi;
 use mf_base::out_buf::OutBuf;
 use mf_base::tile::Interval;
 use mf_base::vbe::put_vbe_u;
+use mf_rows::head::Head;
 use mf_rows::records::Records;
-use mf_rows::view::View;
 
 /// Puts the zoom table of these members: for each zoom level the number of POIs and the number of ways with that
 /// effective zoom.
@@ -57,21 +57,22 @@ fn count_members(records: &Records, interval: &Interval, pois: &mut [u32; 22], w
 {
     let mut i = 0;
     while i < records.len() {
-        count_one(&records.view(i), interval, pois, ways);
+        count_one(records.head(i), interval, pois, ways);
         i += 1;
     }
 }
 
-// Counts one member.
-fn count_one(view: &View, interval: &Interval, pois: &mut [u32; 22], ways: &mut [u32; 22])
+// Counts one member by its head.
+fn count_one(head: &Head, interval: &Interval, pois: &mut [u32; 22], ways: &mut [u32; 22])
     requires zooms { (interval.now.min ≤ interval.now.max) × (interval.now.max ≤ 21) }
-    requires low { view.now.head.zoom ≤ interval.now.max }
+    requires low { head.now.zoom ≤ interval.now.max }
     requires few { AreFew pois.old × AreFew ways.old }
-    ensures pois { pois.new ≡ counted_in is_poi interval.now (feature_told view.now) pois.old }
-    ensures ways { ways.new ≡ counted_in is_way interval.now (feature_told view.now) ways.old }
+    ensures pois { pois.new ≡ counted_if (is_node_kind head.now.kind) pois.old (raised_zoom interval.now head.now.zoom) }
+    ensures ways { ways.new
+        ≡ counted_if (not (is_node_kind head.now.kind)) ways.old (raised_zoom interval.now head.now.zoom) }
 {
-    let zoom = usize::from(view.head().zoom.max(interval.min));
-    if is_poi(view) {
+    let zoom = usize::from(head.zoom.max(interval.min));
+    if is_poi(head) {
         pois[zoom] += 1;
     } else {
         ways[zoom] += 1;
