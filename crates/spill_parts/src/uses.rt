@@ -24,6 +24,7 @@ pub fn copy<K: RowKind, P: Spill, L: Ledger>(
     requires few { (P.state spill.old).count < most_parts }
     requires held { IsHeld K.kind from.now (P.state spill.old) }
     ensures rows { IfOk result (λ to. (P.state spill.old).tells ≡ true → to.rows ≡ from.now.rows) }
+    ensures as_many { IfOk result (λ to. length to.rows ≡ length from.now.rows) }
     ensures held { IfOk result (λ to. IsHeld K.kind to (P.state spill.new)) }
     ensures same_faults { OnOk result ((P.state spill.new).faults ≡ (P.state spill.old).faults) }
     ensures failed { OnErr result (CountsOne (P.state spill.old).faults (P.state spill.new).faults) }
@@ -55,6 +56,7 @@ fn copy_rest<K: RowKind, P: Spill, L: Ledger>(
     requires within { K.kind.width * reader.old.loaded ≤ K.kind.width * length reader.old.source.rows }
     requires small { K.kind.width * length to.old.rows + K.kind.width * length reader.old.left ≤ part_limit }
     ensures rows { OnOk result ((P.state spill.old).tells ≡ true → to.new.rows ≡ to.old.rows ++ reader.old.left) }
+    ensures as_many { OnOk result (length to.new.rows ≡ length to.old.rows + length reader.old.left) }
     ensures held { OnOk result (IsHeld K.kind to.new (P.state spill.new)) }
     ensures steps { steps.new + K.kind.width * reader.old.loaded ≤ steps.old + K.kind.width * length reader.old.source.rows }
     ensures same_faults { OnOk result ((P.state spill.new).faults ≡ (P.state spill.old).faults) }

@@ -22,6 +22,8 @@ loop-row-preserved g c =
     let apart : c.next.new.self.source.part ≢ to.part =
     λ e. c.requires.apart (sym I.part ∙ sym e ∙ ap (λ p. p.part) (c.in_ok-row.ensures.same_source ∙ I.source)) in
     let fewer : length c.loop-row.reader.left ≡ length left_now + 1 = omega (arith, ap length given.1) in
+    let more : length c.put.new.self.rows ≡ length to.rows + 1 =
+    ap length put.rows ∙ length-append to.rows (c.in-Some.row ∷ []) in
     record {
       only = touched_then I.only c.in_ok-row.ensures.same I.part only;
       same_faults = c.in_ok-put.ensures.same_faults ∙ c.in_ok-row.ensures.same_faults ∙ I.same_faults;
@@ -35,10 +37,11 @@ loop-row-preserved g c =
           ∙ append_assoc to.rows (c.in-Some.row ∷ []) left_now
           ∙ ap (λ rs. to.rows ++ rs) (sym first)
           ∙ I.rows told;
+      as_many = omega (arith, I.as_many, more, fewer);
       steps = omega (arith, I.steps, c.in_ok-row.ensures.steps);
       within = c.in_ok-row.ensures.within;
       small = one_moves width (length to.rows) (length c.put.new.self.rows) (length c.loop-row.reader.left)
-          (length left_now) part_limit (ap length put.rows ∙ length-append to.rows (c.in-Some.row ∷ [])) fewer I.small;
+          (length left_now) part_limit more fewer I.small;
       same_overrun = c.in_ok-put.ensures.within
           (one_of_these width (length to.rows) (length c.loop-row.reader.left) (length left_now) part_limit fewer I.small)
           ∙ ap (λ (s : SpillState). s.is_overrun) c.in_ok-row.ensures.same
