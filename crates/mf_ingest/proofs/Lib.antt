@@ -14,3 +14,5 @@ pub mod Grown
 pub mod Composed
 pub mod Ingesting
 pub mod Ingested
+pub mod ContentSizes
+pub mod InputSizes

@@ -13,6 +13,10 @@ abbrev pub most_of : List Entity → ℕ
 most_of [] = 0
 most_of (e ∷ entities) = most_bytes e + most_of entities
 
+-- how many bytes each byte of an input comes to at most in each part
+abbrev pub most_per_byte : ℕ
+most_per_byte = 65536
+
 -- What holds of the store whatever is answered: it has as many parts as at first, and it is overrun only where these
 -- entities can pass the limit of a part.
 pub record KeepsIngest {P : Type 0} (state : P → SpillState) (first now : Ingester P) (entities : List Entity)

@@ -3,7 +3,7 @@
 //! `lent` is what an entity tells of itself. `candidate` gives the head and the texts of one that is a candidate, by
 //! `heads` and `texts`; nothing is copied out of its block. `gathering` puts the rows of each entity to six parts, by
 //! `rows`, which takes them one behind another from `refs`, `members` and `units`. `ingest` does so with all entities of an
-//! input, by `ingester`, the reader of a pass over them.
+//! input, by `ingester`, the reader of a pass over them. `laws` tells how much the parts of an input can come to.
 #![tactic(auto)]
 
 mod candidate;
@@ -12,6 +12,7 @@ mod gathering;
 mod heads;
 pub mod ingest;
 mod ingester;
+pub mod laws;
 mod lent;
 mod members;
 mod refs;
