@@ -1,12 +1,15 @@
 -- What an ingest tells, by what its pass over the entities tells.
-use Rattle.std.proofs.Common.{◌≡◌, ◌∙◌, ◌++◌, ◌∷◌, ℕ, List, [], Option, None, Result, Ok, Err, refl, sym, ap, subst}
+use Rattle.std.proofs.Common.{◌≡◌, ◌∙◌, ◌++◌, ◌∷◌, ℕ, List, [], Option, Some, None, Result, Ok, Err, refl, sym, ap, subst}
 use Rattle.std.proofs.Common.{append-nil, inl}
+use Rattle.std.specs.Prelude.{IfSome, IsTrue}
+use Rattle.mf_base.specs.Ranges.{is_rect}
 use Rattle.mf_base.specs.declared.place.Rect.{Rect}
 use Rattle.mf_edge.specs.Device.{CountsOne}
 use Rattle.mf_edge.specs.Spill.{SpillState}
 use Rattle.mf_edge.specs.Stream.{StreamState}
 use Rattle.osm_model.specs.Entities.{Entity}
-use Rattle.osm_model.specs.Input.{input_fault, input_entities}
+use Rattle.osm_model.specs.Input.{input_fault, input_entities, input_box}
+use Rattle.osm_model.proofs.PlaceRange.{input-rect}
 use Rattle.feature_model.specs.Mapping.{Mapping}
 use Rattle.extract_pass.specs.declared.counts.Counts.{Counts}
 use Rattle.extract_pass.specs.declared.fault.PassFault.{PassFault}
@@ -28,6 +31,15 @@ pub record IsFinished {P : Type 0} (now : Ingester P) (bounds : Option Rect) (fo
   pub counts : now.counts ≡ record { nodes = found.nodes; ways = found.ways; relations = found.relations }
   pub boxed : found.bounds ≡ bounds
   pub rows : ingested_rows found ≡ gathered_rows now.parts
+
+-- the box of the bytes that were taken is a rectangle on the earth
+pub box-rect : (mapping : Mapping) (found : Ingested) (old new : StreamState) → TellsIngest mapping old (Ok found) new
+    → IfSome found.bounds (λ box. IsTrue (is_rect box))
+box-rect mapping found old new h = go found.bounds h.holds.0.boxed
+  where
+    go : (o : Option Rect) → o ≡ input_box h.bytes → IfSome o (λ box. IsTrue (is_rect box))
+    go None same = tt
+    go (Some box) same = input-rect h.bytes box (sym same)
 
 pub err-same : {A : Type 0} (f g : IngestFault) → ◌≡◌ {A = Result A IngestFault} (Err f) (Err g) → f ≡ g
 err-same f g e = cc

@@ -1,6 +1,7 @@
 //! The entities of an input become parts of rows.
 
-ghost use Rattle.std.specs.Prelude.{◌≡◌, ◌≢◌, ◌≤◌, ℕ, List, [], Some, Err, IfOk};
+ghost use Rattle.std.specs.Prelude.{◌≡◌, ◌≢◌, ◌≤◌, ℕ, List, [], Some, Err, IfOk, IfSome, IsTrue};
+ghost use Rattle.mf_base.specs.Ranges.{is_rect};
 ghost use Rattle.mf_edge.specs.Device.{CountsOne};
 ghost use Rattle.mf_edge.specs.Spill.{SameStore};
 ghost use Rattle.mf_edge.specs.Stream.{FailsWhere, IsWalk, at};
@@ -55,6 +56,9 @@ pub fn ingest<S: Source, P: Spill>(
 
     // Over a source that tells its bytes.
     ensures exact { (all : List ℕ) → (at S.state src.old).source.left ≡ Some all → TellsIngestOf mapping.now all result }
+
+    // The box, where the input gives one, is a rectangle on the earth, each least side at most its greatest.
+    ensures on_earth { IfOk result (λ found. IfSome found.bounds (λ box. IsTrue (is_rect box))) }
 
     ensures just { IfOk result (λ found. HasJust (ingested_pieces found) (P.state spill.new)) }
     ensures faults { FailsWhere (result ≡ Err IngestFault.Read) (at S.state src.old) (at S.state src.new) }

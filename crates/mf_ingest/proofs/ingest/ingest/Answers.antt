@@ -5,7 +5,7 @@ use Rattle.mf_ingest.specs.Gathered.{gathered_pieces, gathered_rows}
 use Rattle.mf_ingest.specs.Ingesting.{HasIngested}
 use Rattle.mf_ingest.specs.Ingest.{TellsIngest, TellsIngestOf, TellsFill, TellsFillOf}
 use Rattle.mf_ingest.proofs.Ingesting.{ingests-none}
-use Rattle.mf_ingest.proofs.Ingested.{IsFinished, tells-ok, exact-ok, tells-err, exact-err}
+use Rattle.mf_ingest.proofs.Ingested.{IsFinished, tells-ok, exact-ok, tells-err, exact-err, box-rect}
 use Rattle.mf_ingest.proofs.ingest.ingest.Goals as goal
 
 pub fill-requires-clause-begun : goal.fill-requires-clause-begun
@@ -46,6 +46,11 @@ returns-in-Ok-fill-clause-exact g c all told =
     subst (λ m. TellsIngestOf m all (Ok c.finish.result)) c.new-ingester.ensures.mapping
     (exact-ok state first now c.in-Ok-fill.bounds c.finish.result all finished
     (subst (TellsFillOf (HasIngested state first now) all) c.in-Ok-fill.is (c.fill.ensures.exact all told)))
+
+pub returns-in-Ok-fill-clause-on_earth : goal.returns-in-Ok-fill-clause-on_earth
+returns-in-Ok-fill-clause-on_earth g c =
+    box-rect c.args.mapping.now c.finish.result (at g.S.Source.state c.args.src.now)
+    (at g.S.Source.state c.fill.new.src) (returns-in-Ok-fill-clause-told g c)
 
 pub returns-in-Err-fill-clause-told : goal.returns-in-Err-fill-clause-told
 returns-in-Err-fill-clause-told g c =
