@@ -254,3 +254,6 @@ fn put_whole<P: Spill>(
     let unit = point_unit(node.id(), node.place());
     units.put(spill, &row_of(&front.head, last, unit))
 }
+
+#[cfg(test)]
+mod tests;

@@ -17,6 +17,8 @@ mod lent;
 mod members;
 mod refs;
 mod rows;
+#[cfg(test)]
+mod sample;
 mod texts;
 mod units;
 
