@@ -127,3 +127,6 @@ fn ingest_fault(fault: PassFault) -> IngestFault
         PassFault::Stopped => IngestFault::Spill,
     }
 }
+
+#[cfg(test)]
+mod tests;
