@@ -1,0 +1,9 @@
+pub mod Contents
+pub mod Stretches
+pub mod Pending
+pub mod Placing
+pub mod Unchanged
+pub mod Answered
+pub mod Entries
+pub mod SubFilesPut
+pub mod Mapped
