@@ -17,7 +17,7 @@ use Rattle.mf_ingest.specs.declared.front.Described.{Described}
 use Rattle.mf_ingest.specs.FrontRows.{front_rows}
 use Rattle.mf_ingest.specs.EntityRows.{whole_rows, node_parts, way_parts, relation_parts}
 use Rattle.mf_ingest.specs.Gathered.{Gathered, gathered_pieces, gathered_rows, rows_behind, HaveSpace, KeepsStore}
-use Rattle.mf_ingest.proofs.JustParts.{just-still}
+use Rattle.spill_parts.proofs.JustParts.{just-still}
 
 -- ---- the parts that are there
 

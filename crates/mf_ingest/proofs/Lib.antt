@@ -6,7 +6,6 @@ pub mod TextSizes
 pub mod Describing
 pub mod Records
 pub mod Handing
-pub mod JustParts
 pub mod RowTurns
 pub mod Gatherings
 pub mod EntityPuts

@@ -6,7 +6,7 @@ use Rattle.std.specs.List.{enumerate_from, cons_option}
 use Rattle.std.proofs.Math.Nat.{mul-add, mul-suc}
 use Rattle.std.proofs.lemmas.List.{length-append, drop_all}
 use Rattle.std.proofs.lemmas.Option.{same_Some}
-use Rattle.mf_ingest.specs.Giving.{GivesFirst}
+use Rattle.spill_parts.specs.Giving.{GivesFirst}
 
 module _ {A B : Type 0} (f : ℕ × A → Option B) where
   -- the rows of items, of which the first has this place
@@ -54,19 +54,3 @@ row-given (x ∷ rows) (suc i) row is =
 
 pub none-given : {B : Type 0} (rows : List B) (i : ℕ) → length rows ≤ i → GivesFirst (drop i rows) None (drop i rows)
 none-given rows i past = (drop_all i rows past, drop_all i rows past)
-
--- ---- space for rows
-
--- where there is space for all rows, there is space for the first of those that are left
-pub still-within : {K : Type 0} (width limit : ℕ) (here left first all : List K) (row : K)
-    → here ++ row ∷ left ≡ first ++ all → width * (length first + length all) ≤ limit
-    → width * length here + width ≤ limit
-still-within width limit here left first all row same le =
-    let long : length here + suc (length left) ≡ length first + length all =
-    sym (length-append here (row ∷ left)) ∙ ap length same ∙ length-append first all in
-    let spread : width * (length here + suc (length left)) ≡ width * length here + width * suc (length left) =
-    mul-add width (length here) (suc (length left)) in
-    let one : width * suc (length left) ≡ width * length left + width = mul-suc width (length left) in
-    let total : width * (length here + suc (length left)) ≡ width * (length first + length all) =
-    ap (λ n. width * n) long in
-    omega arith

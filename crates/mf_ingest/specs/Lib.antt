@@ -1,6 +1,5 @@
 pub mod Fronts
 pub mod FrontRows
-pub mod Giving
 pub mod LeftRows
 pub mod Gathered
 pub mod EntityRows

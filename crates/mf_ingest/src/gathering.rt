@@ -23,7 +23,6 @@ use crate::candidate::describe;
 use crate::front::Described;
 use crate::members::MemberRows;
 use crate::refs::RefRows;
-use crate::rows::put_rows;
 use crate::units::{UnitRows, row_of};
 use mf_base::place::Rect;
 use mf_edge::{Failed, Spill};
@@ -35,7 +34,7 @@ use osm_entity::entity::Entity;
 use osm_entity::node_view::NodeView;
 use osm_entity::relation::RelationView;
 use osm_entity::way::WayView;
-use spill_parts::{Ingested, Writer};
+use spill_parts::{Ingested, Writer, put_rows};
 use std::marker::Model;
 use tag_mapping::mapping::Mapping;
 

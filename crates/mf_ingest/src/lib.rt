@@ -1,9 +1,9 @@
 //! What the entities of an input become: rows of the parts that the next pass reads.
 //!
 //! `lent` is what an entity tells of itself. `candidate` gives the head and the texts of one that is a candidate, by
-//! `heads` and `texts`; nothing is copied out of its block. `gathering` puts the rows of each entity to six parts, by
-//! `rows`, which takes them one behind another from `refs`, `members` and `units`. `ingest` does so with all entities of an
-//! input, by `ingester`, the reader of a pass over them. `laws` tells how much the parts of an input can come to.
+//! `heads` and `texts`; nothing is copied out of its block. `gathering` puts the rows of each entity to six parts, one
+//! behind another as `refs`, `members` and `units` give them. `ingest` does so with all entities of an input, by
+//! `ingester`, the reader of a pass over them. `laws` tells how much the parts of an input can come to.
 #![tactic(auto)]
 
 mod candidate;
@@ -16,7 +16,6 @@ pub mod laws;
 mod lent;
 mod members;
 mod refs;
-mod rows;
 #[cfg(test)]
 mod sample;
 mod texts;

@@ -8,12 +8,12 @@ ghost use Rattle.spill_parts.specs.Handed.{member_rows, member_row_of};
 ghost use Rattle.mf_ingest.specs.LeftRows.{members_from};
 
 use crate::refs::id_named;
-use crate::rows::Rows;
 use mf_base::kind::{EntityKind, Role};
 use mf_rows::kinds::MemberRow;
 use mf_rows::numbers::number_of_role;
 use osm_entity::members::{Member, MemberCursor};
 use osm_entity::relation::RelationView;
+use spill_parts::Rows;
 
 /// Gives the members of a relation that may be its parts, each with its place among all.
 #[derive(Drop)]

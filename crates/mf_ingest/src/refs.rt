@@ -6,10 +6,10 @@ ghost use Rattle.osm_entity.specs.Ways.{way_shown};
 ghost use Rattle.spill_parts.specs.Handed.{id_told, ref_rows};
 ghost use Rattle.mf_ingest.specs.LeftRows.{refs_from};
 
-use crate::rows::Rows;
 use mf_rows::kinds::RefRow;
 use osm_entity::refs::RefCursor;
 use osm_entity::way::WayView;
+use spill_parts::Rows;
 
 /// Gives the refs of a way that may be ids of nodes, each with its place among all.
 #[derive(Drop)]

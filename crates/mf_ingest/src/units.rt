@@ -12,11 +12,11 @@ ghost use Rattle.mf_ingest.specs.FrontRows.{front_rows};
 ghost use Rattle.mf_ingest.specs.LeftRows.{units_from};
 
 use crate::front::Described;
-use crate::rows::Rows;
 use mf_rows::first_units::{first_unit, first_units};
 use mf_rows::head::Head;
 use mf_rows::kinds::FeatureRow;
 use mf_rows::numbers::number_of_kind;
+use spill_parts::Rows;
 
 /// Gives the units of a head and its texts, each with its place.
 #[derive(Drop)]
