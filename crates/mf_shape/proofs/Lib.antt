@@ -1,0 +1,5 @@
+pub mod Made
+pub mod Weights
+pub mod Turns
+pub mod Going
+pub mod OfNodes
