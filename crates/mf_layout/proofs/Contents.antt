@@ -68,8 +68,9 @@ told-all [] rows bytes e same = refl
 told-all (tiles ∷ all) rows bytes e same =
     let n : sub_file_size tiles - 5 * length tiles ≡ length (tile_bytes tiles) = omega (arith, size-is tiles) in
     let index = index-told tiles (take (length tiles) rows) (take-told tiles (flat_map (map entry_of) all) rows e) in
-    let first = front (sub_file_size tiles - 5 * length tiles) (tile_bytes tiles) (flat_map tile_bytes all) bytes n same in
-    let later = behind (sub_file_size tiles - 5 * length tiles) (tile_bytes tiles) (flat_map tile_bytes all) bytes n same in
+    let size = sub_file_size tiles - 5 * length tiles in
+    let first = front size (tile_bytes tiles) (flat_map tile_bytes all) bytes n same in
+    let later = behind size (tile_bytes tiles) (flat_map tile_bytes all) bytes n same in
     let rest = told-all all (drop (length tiles) rows) (drop (sub_file_size tiles - 5 * length tiles) bytes)
     (drop-told tiles (flat_map (map entry_of) all) rows e) later in
     λ i. index i ++ first i ++ rest i
@@ -79,10 +80,14 @@ pub fit-all : (all : List (List TileContent)) (rows : List IndexRow) → map ent
 fit-all [] rows e = tt
 fit-all (tiles ∷ all) rows e =
     let told = take-told tiles (flat_map (map entry_of) all) rows e in
-    let same = sym (sizes-told (take (length tiles) rows)) ∙ ap (sum_by (λ (p : Bool × ℕ). p.1)) told ∙ sizes-of tiles in
-    (omega (arith, same, size-is tiles), fit-all all (drop (length tiles) rows) (drop-told tiles (flat_map (map entry_of) all) rows e))
+    let same = sym (sizes-told (take (length tiles) rows)) ∙ ap (sum_by (λ (p : Bool × ℕ). p.1)) told ∙ sizes-of tiles
+    in (
+      omega (arith, same, size-is tiles),
+      fit-all all (drop (length tiles) rows) (drop-told tiles (flat_map (map entry_of) all) rows e),
+    )
 
-pub sizes-bytes : (all : List (List TileContent)) → map (λ (s : SubFileSize). s.bytes) (map size_of all) ≡ map sub_file_size all
+pub sizes-bytes : (all : List (List TileContent))
+    → map (λ (s : SubFileSize). s.bytes) (map size_of all) ≡ map sub_file_size all
 sizes-bytes [] = refl
 sizes-bytes (tiles ∷ all) = ap (λ more. sub_file_size tiles ∷ more) (sizes-bytes all)
 

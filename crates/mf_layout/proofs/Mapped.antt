@@ -82,7 +82,8 @@ whole-part intervals all subs s are holds =
 pub fit-told : (all : List (List TileContent)) (subs : SubFiles) (s : SpillState) → HoldTiles all subs s
     → Fit subs.sizes.items subs.index.rows
 fit-told all subs s holds =
-    subst (λ (ss : List SubFileSize). Fit ss subs.index.rows) (sym holds.sizes) (fit-all all subs.index.rows holds.entries)
+    subst (λ (ss : List SubFileSize). Fit ss subs.index.rows) (sym holds.sizes)
+    (fit-all all subs.index.rows holds.entries)
 
 -- a header has room for an entry
 pub five-bytes : (set : HeadSettings) (names : TagLists) → 5 ≤ header_size set names

@@ -1,5 +1,6 @@
 -- Where sub-files stand, one behind another.
-use Rattle.std.proofs.Common.{◌≡◌, ℕ, zero, suc, ◌+◌, ◌<◌, ◌≤◌, List, ◌∷◌, ◌++◌, [], map, length, take, drop, get_or, set}
+use Rattle.std.proofs.Common.{◌≡◌, ℕ, zero, suc, ◌+◌, ◌<◌, ◌≤◌, List, ◌∷◌, ◌++◌, [], map, length}
+use Rattle.std.proofs.Common.{take, drop, get_or, set}
 use Rattle.std.proofs.Common.{sym, ap, ◌∙◌, arith, append_assoc}
 use Rattle.std.proofs.Common.{◌*◌, ◌^◌}
 use Rattle.std.specs.Prelude.{sum}

@@ -32,7 +32,8 @@ pub stretch-front : (before mid now : Option (List ℕ)) (bytes : List ℕ) (fro
 stretch-front before mid now bytes from at n to le most first second =
     let more : from ≤ at + n = omega (arith, le) in
     let end : at + n + (to - (at + n)) - from ≡ to - from = omega (arith, le, most) in
-    let here = GainsFront-then before mid now (take (at - from) (drop from bytes)) (take n (drop at bytes)) first second in
+    let here = GainsFront-then before mid now (take (at - from) (drop from bytes)) (take n (drop at bytes)) first second
+    in
     rw (← end) (rw (← stretch-join bytes from (at + n) (to - (at + n)) more)
     (GainsFront-longer before now (take (at + n - from) (drop from bytes)) (take (to - (at + n)) (drop (at + n) bytes))
     (rw (← stretch-join bytes from at n le) here)))

@@ -1,6 +1,6 @@
 -- The sub-files of a map, as parts of a store. This project's own.
-use Rattle.std.specs.Prelude.{◌≡◌, ℕ, ◌+◌, ◌-◌, ◌*◌, ◌^◌, ◌<◌, ◌≤◌, nat_eq, Bool, List, [], ◌∷◌, ◌++◌, ⊤, map, flat_map, take, drop, length}
-use Rattle.std.specs.Prelude.{sum_by, ◌≢◌, None}
+use Rattle.std.specs.Prelude.{◌≡◌, ℕ, ◌+◌, ◌-◌, ◌*◌, ◌^◌, ◌<◌, ◌≤◌, nat_eq, Bool, List, [], ◌∷◌, ◌++◌, ⊤, map}
+use Rattle.std.specs.Prelude.{flat_map, take, drop, length, sum_by, ◌≢◌, None}
 use Rattle.std.specs.List.{AllByRecursion}
 use Rattle.mf_edge.specs.Spill.{SpillState}
 use Rattle.map_model.specs.SubFile.{TileContent, entry_of, entries_from, sub_file_size}

@@ -1,12 +1,11 @@
 //! The index of a sub-file goes from its rows to a sink.
 
-ghost use Rattle.std.specs.Prelude.{◌≡◌, ◌≢◌, ◌+◌, ◌-◌, ◌*◌, ◌<◌, ◌≤◌, ◌^◌, true, [], ◌∷◌, ◌++◌, List, length, take, drop};
-ghost use Rattle.std.specs.Prelude.{ℕ, Err, IfOk, OnOk, OnErr};
+ghost use Rattle.std.specs.Prelude.{◌≡◌, ◌≢◌, ◌+◌, ◌*◌, ◌<◌, ◌≤◌, ◌^◌, true, [], ◌++◌, List, length};
+ghost use Rattle.std.specs.Prelude.{ℕ, take, drop, Err, IfOk, OnOk, OnErr};
 ghost use Rattle.mf_base.specs.Buffer.{HasRoom};
 ghost use Rattle.mf_edge.specs.Device.{Gained, GainedFront, CountsOne};
 ghost use Rattle.mf_edge.specs.Spill.{SameParts};
 ghost use Rattle.mf_rows.specs.Kinds.{index_kind};
-ghost use Rattle.mf_rows.specs.declared.kinds.IndexRow.{IndexRow as Row};
 ghost use Rattle.spill_parts.specs.Parts.{IsReading};
 ghost use Rattle.mf_layout.specs.SubFiles.{IsSubFile, entries_told, tiles_size};
 

@@ -1,7 +1,8 @@
 //! From features to the bytes of the map.
 //!
-//! `sub_files` is what the tiles of all intervals become in the store. `emit` writes the map of them: the header, and for
-//! each interval its index (`index_out`) and the bytes of its tiles (`tiles_out`).
+//! `sub_files` is what the tiles of all intervals become in the store. `emit` writes the map of them: the header
+//! (`head_out`), and for each interval (`sub_files_out`) its index (`index_out`) and the bytes of its tiles
+//! (`tiles_out`).
 #![tactic(auto)]
 
 mod buffered;

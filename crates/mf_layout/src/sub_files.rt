@@ -11,8 +11,8 @@ pub struct SubFileSize {
     pub bytes: u64,
 }
 
-/// The sub-files of a map, one for each interval: their sizes, and two parts, in which those of an interval stand behind
-/// those of the one before: a row for each tile of the index, and the bytes of the tiles.
+/// The sub-files of a map, one for each interval: their sizes, and two parts, in which those of an interval stand
+/// behind those of the one before: a row for each tile of the index, and the bytes of the tiles.
 ///
 /// `shown` and `water` count tiles with members and those with the water bit; `largest` is the greatest weight of a
 /// candidate or a tile.

@@ -43,9 +43,11 @@ pub(crate) fn put_sub_files<P: Spill, K: Sink, L: Ledger>(
     requires empty { buffer.old.bytes ≡ [] }
     requires room { 5 ≤ buffer.old.capacity }
     ensures all { OnOk result ((P.state spill.old).tells ≡ true → Gained (K.state out.old)
-        (sub_files_told sizes.now rows.old.left (drop at ((P.state spill.old).bytes tiles.now.part))) (K.state out.new)) }
+        (sub_files_told sizes.now rows.old.left (drop at ((P.state spill.old).bytes tiles.now.part)))
+        (K.state out.new)) }
     ensures front { OnErr result ((P.state spill.old).tells ≡ true → GainedFront (K.state out.old)
-        (sub_files_told sizes.now rows.old.left (drop at ((P.state spill.old).bytes tiles.now.part))) (K.state out.new)) }
+        (sub_files_told sizes.now rows.old.left (drop at ((P.state spill.old).bytes tiles.now.part)))
+        (K.state out.new)) }
     ensures most { steps.new + 18 * rows.old.loaded + at
         ≤ steps.old + 18 * length rows.old.source.rows + tiles.now.size }
     ensures capacity { buffer.new.capacity ≡ buffer.old.capacity }
