@@ -26,6 +26,7 @@ use Rattle.feature_model.proofs.ProperLaws.{features-proper, features-and-skippe
 use Rattle.feature_model.proofs.Rising.{all-both, all-imp, all-unmap}
 use Rattle.feature_model.proofs.ShapeLaws.{candidates-parts}
 use Rattle.feature_model.proofs.Totals.{total, sum-total}
+use Rattle.map_model.specs.MapFile.{shape_size}
 use Rattle.mf_rows.specs.Changes.{with_feature}
 use Rattle.mf_rows.specs.Heads.{kind_number}
 use Rattle.mf_rows.specs.Records.{Record, candidate_told, description_told}
@@ -296,6 +297,17 @@ module _ (mapping : Mapping) where
     length-append (record_rows r) (flat_map record_rows records),
   )
 
+  weights-all : (records : List Record) → AllByRecursion (IsOfNode mapping) records
+      → total weight (map candidate_told records) ≡ length (flat_map record_rows records)
+  weights-all [] each = refl
+  weights-all (r ∷ records) each = omega (
+    arith,
+    weighs mapping r each.0,
+    rows-many r each.0,
+    weights-all records each.1,
+    length-append (record_rows r) (flat_map record_rows records),
+  )
+
 -- ---- all features of an input
 
 module _ (mapping : Mapping) (none : mapping.way ≡ []) (entities : List Entity) (records : List Record)
@@ -356,6 +368,15 @@ module _ (mapping : Mapping) (none : mapping.way ≡ []) (entities : List Entity
         → candidate_fault limit mapping entities ≡ None
     no-fault limit rows are = fault-is mapping none entities records told limit
         ∙ ap (option_map record_over) (none-over limit records are.light)
+
+    -- there are no more rows than the input has entities and its candidates weigh
+    pub rows-within : length (flat_map record_rows records) ≤ shape_size mapping entities
+    unfolding shape_size
+    rows-within =
+        let all : sum_by weight (candidates mapping entities) ≡ length (flat_map record_rows records) =
+        sum-total weight (candidates mapping entities)
+        ∙ ap (total weight) (candidates-are mapping none entities records told) ∙ weights-all mapping records each-node in
+        omega (arith, all)
 
 -- ---- what tiles ask of features
 

@@ -5,6 +5,7 @@ ghost use Rattle.osm_model.specs.Entities.{Entity};
 ghost use Rattle.feature_model.specs.Mapping.{Mapping};
 ghost use Rattle.feature_model.specs.Limits.{candidate_fault};
 ghost use Rattle.feature_model.specs.declared.fault.LimitFault.{LimitFault as Fault};
+ghost use Rattle.map_model.specs.MapFile.{shape_size};
 ghost use Rattle.mf_edge.specs.Device.{CountsOne};
 ghost use Rattle.mf_edge.specs.Spill.{SameStore};
 ghost use Rattle.spill_parts.specs.Parts.{Piece, HasJust};
@@ -44,6 +45,8 @@ pub fn shape<P: Spill, L: Ledger>(
     ensures same { SameStore (P.state spill.old) (P.state spill.new) }
     ensures same_overrun { (P.state spill.new).is_overrun ≡ (P.state spill.old).is_overrun }
     ensures steps { steps.new ≤ steps.old + 29 * length found.node_units.rows }
+    ensures size { (mapping : Mapping) (entities : List Entity) → IsIngested mapping entities found
+        → mapping.way ≡ [] → steps.new ≤ steps.old + 29 * shape_size mapping entities }
     ensures capacity { desk.new.records.capacity ≡ desk.old.records.capacity }
     ensures out { desk.new.out ≡ desk.old.out }
     ensures same_room { page.new.room ≡ page.old.room }

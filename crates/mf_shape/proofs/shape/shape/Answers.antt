@@ -1,4 +1,4 @@
-use Rattle.std.proofs.Common.{◌≡◌, ◌<◌, ◌^◌, [], ◌∷◌, length, Err, sym, ap, subst, ◌∙◌, arith}
+use Rattle.std.proofs.Common.{◌≡◌, ◌≤◌, ◌<◌, ◌^◌, [], ◌∷◌, length, Err, sym, ap, subst, ◌∙◌, arith}
 use Rattle.std.specs.Prelude.{flat_map}
 use Rattle.std.specs.Result.{IsErrAnd}
 use Rattle.mf_rows.specs.Kinds.{shape_kind}
@@ -10,6 +10,8 @@ use Rattle.feature_model.specs.Features.{features}
 use Rattle.spill_parts.proofs.JustParts.{just-more, just-still}
 use Rattle.mf_shape.specs.declared.fault.ShapeFault.{ShapeFault}
 use Rattle.mf_shape.proofs.OfNodes.{each-spelled, fault-is, largest-is, shapes-are, counts-are, shown-are, no-fault}
+use Rattle.mf_shape.proofs.OfNodes.{rows-within}
+use Rattle.map_model.specs.MapFile.{shape_size}
 use Rattle.mf_shape.proofs.shape.shape.Goals as goal
 
 pub forget_parts-requires : goal.forget_parts-requires
@@ -67,3 +69,17 @@ returns-clause-just g c =
     c.in_ok-counts.ensures.held (ingested_pieces c.args.found)
     (just-more shape_kind c.in_ok-out.out c.in_ok-out.ensures.made c.make.ensures.same c.in_ok-out.ensures.kept
     c.in_ok-out.ensures.apart (ingested_pieces c.args.found) c.requires.just)))
+
+pub returns-in_err-counts-clause-size : goal.returns-in_err-counts-clause-size
+returns-in_err-counts-clause-size g c mapping entities is none =
+    let all = is.rows.node_candidates in
+    let within : length (flat_map record_rows all.records) ≤ shape_size mapping entities =
+    rows-within mapping none entities all.records all.told in
+    omega (arith, within, ap length all.spelled, c.put_nodes.ensures.steps)
+
+pub returns-clause-size : goal.returns-clause-size
+returns-clause-size g c mapping entities is none =
+    let all = is.rows.node_candidates in
+    let within : length (flat_map record_rows all.records) ≤ shape_size mapping entities =
+    rows-within mapping none entities all.records all.told in
+    omega (arith, within, ap length all.spelled, c.put_nodes.ensures.steps)
