@@ -1,0 +1,44 @@
+//! Laws of the rows of tiles.
+
+ghost use Rattle.std.specs.Prelude.{◌≡◌, ◌≤◌, ℕ, List, map, length, sum_by, IsTrue};
+ghost use Rattle.std.specs.List.{AllByRecursion};
+ghost use Rattle.mf_base.specs.declared.place.Rect.{Rect};
+ghost use Rattle.mf_base.specs.declared.tile.TilePlace.{TilePlace};
+ghost use Rattle.feature_model.specs.Features.{Feature};
+ghost use Rattle.map_model.specs.Header.{HeadSettings};
+ghost use Rattle.map_model.specs.MapFile.{all_tiles, tile_weight};
+ghost use Rattle.map_model.specs.Intervals.{are_intervals};
+ghost use Rattle.map_model.specs.Members.{members};
+ghost use Rattle.map_model.specs.NumberedMembers.{members_by};
+ghost use Rattle.mf_rows.specs.RowKinds.{IsOf};
+ghost use Rattle.mf_rows.specs.Kinds.{shape_kind, tile_kind};
+ghost use Rattle.mf_rows.specs.declared.kinds.ShapeRow.{ShapeRow};
+ghost use Rattle.mf_rows.specs.declared.kinds.TileRow.{TileRow};
+ghost use Rattle.spill_parts.specs.Parts.{ordered_rows};
+ghost use Rattle.spill_parts.specs.Shaped.{Spelled, IsLight, AreShapes};
+ghost use Rattle.tile_rows.specs.TileRows.{shown, member_rows, put_rows, all_tile_rows, AreNumbered};
+
+/// The rows that are put, in the order of a part, are tile after tile those of its members; and no more rows are put
+/// than all tiles weigh.
+#[tactic(auto, using(crate::proofs::RowOrder::order_laws, crate::proofs::RowCount::count_laws))]
+pub fn rows_in_order()
+    ensures all { (set : HeadSettings) (box : Rect) (list : List Spelled) → IsTrue (are_intervals set.intervals)
+        → AreNumbered list → ordered_rows tile_kind (put_rows set box list) ≡ all_tile_rows set box list }
+    ensures within { (limit : ℕ) (set : HeadSettings) (box : Rect) (list : List Spelled)
+        → IsTrue (are_intervals set.intervals) → AllByRecursion (IsLight limit) list
+        → length (put_rows set box list) ≤ sum_by (tile_weight (map shown list)) (all_tiles set box) }
+{}
+
+/// The records whose rows a tile has show its members in order, and the rows of a record have its units.
+#[tactic(auto, using(crate::proofs::MemberRows::member_laws))]
+pub fn rows_of_members()
+    ensures members { (list : List Spelled) (tile : TilePlace)
+        → map shown (members_by shown list tile) ≡ members (map shown list) tile }
+    ensures units { (tile : TilePlace) (s : Spelled) → map (λ (r : TileRow). r.unit) (member_rows tile s) ≡ s.units }
+{}
+
+/// The records that rows of shapes spell are numbered, and each has rows, where the rows are those of a part.
+pub fn shapes_are_numbered()
+    ensures { (limit : ℕ) (list : List Feature) (rows : List ShapeRow) (is : AreShapes limit list rows)
+        → AllByRecursion (IsOf shape_kind) rows → AreNumbered is.spelled }
+{}
