@@ -1,6 +1,6 @@
 -- What an ingest tells of the bytes that it took. This project's own.
-use Rattle.std.specs.Prelude.{◌≡◌, ◌≤◌, ℕ, List, length, Option, Some, None, Result, Ok, Err, ⊤}
-use Rattle.mf_base.specs.declared.place.Rect.{Rect}
+use Rattle.std.specs.Prelude.{◌≡◌, ◌≤◌, ℕ, List, length, Some, None, Result, Ok, Err, ⊤}
+use Rattle.std.specs.List.{AllByRecursion}
 use Rattle.mf_edge.specs.Device.{IsAtEnd}
 use Rattle.mf_edge.specs.Spill.{part_limit}
 use Rattle.mf_edge.specs.Stream.{StreamState}
@@ -10,38 +10,19 @@ use Rattle.feature_model.specs.Mapping.{Mapping}
 use Rattle.pbf_frame.specs.FrameReading.{HasTaken}
 use Rattle.extract_pass.specs.declared.fault.PassFault.{PassFault}
 use Rattle.extract_pass.specs.declared.fault.PassFault.TheVariants as pass_fault
-use Rattle.extract_pass.specs.EntityPass.{IsAccepted, HasInputFault, WereHanded}
+use Rattle.extract_pass.specs.EntityPass.{HasInputFault, WereHanded}
+use Rattle.spill_parts.specs.Parts.{Piece}
 use Rattle.spill_parts.specs.Handed.{AreRowsOf, ingested_rows}
 use Rattle.spill_parts.specs.declared.handed.Ingested.{Ingested}
 use Rattle.mf_ingest.specs.Ingesting.{most_of}
 use Rattle.mf_ingest.specs.declared.ingest.IngestFault.{IngestFault}
 use Rattle.mf_ingest.specs.declared.ingest.IngestFault.TheVariants as ingest_fault
 
--- ---- the entities alone
-
 -- the fault of a pass whose reader stops only where the store fails
 abbrev pub told_pass : PassFault → IngestFault
 told_pass (pass_fault.Input fault) = ingest_fault.Input fault
 told_pass pass_fault.Read = ingest_fault.Read
 told_pass pass_fault.Stopped = ingest_fault.Spill
-
--- Of the bytes that were taken: they are an accepted input with this box, at whose end the source stands, and this holds
--- of its entities; or an input that begins with them has this first fault. Where a device failed nothing is said.
-abbrev pub TellsFill : (List Entity → Type 0) → StreamState → Result (Option Rect) IngestFault → StreamState → Type 0
-TellsFill Stands old (Ok bounds) new =
-    HasTaken (λ bytes. IsAccepted Stands bounds bytes × IsAtEnd new.source) old new
-TellsFill Stands old (Err (ingest_fault.Input fault)) new = HasTaken (HasInputFault fault new.source) old new
-TellsFill Stands old (Err ingest_fault.Read) new = ⊤
-TellsFill Stands old (Err ingest_fault.Spill) new = ⊤
-
--- The same of all bytes of a source that tells them.
-abbrev pub TellsFillOf : (List Entity → Type 0) → List ℕ → Result (Option Rect) IngestFault → Type 0
-TellsFillOf Stands all (Ok bounds) = IsAccepted Stands bounds all
-TellsFillOf Stands all (Err (ingest_fault.Input fault)) = input_fault all ≡ Some fault
-TellsFillOf Stands all (Err ingest_fault.Read) = ⊤
-TellsFillOf Stands all (Err ingest_fault.Spill) = ⊤
-
--- ---- counts, box and parts
 
 -- The bytes are an accepted input, and the counts, the box and the parts are those of its entities.
 pub record AreIngested (mapping : Mapping) (found : Ingested) (bytes : List ℕ) : Type 0 where
@@ -71,3 +52,7 @@ TellsIngestOf mapping all (Err ingest_fault.Spill) = ⊤
 -- Of these bytes, all entities that a pass can have handed on fit into a part.
 abbrev pub HasSmallParts : List ℕ → Type 0
 HasSmallParts bytes = (entities : List Entity) → WereHanded bytes entities → most_of entities ≤ part_limit
+
+-- no part has more bytes
+abbrev pub AreWithin : ℕ → List Piece → Type 0
+AreWithin most pieces = AllByRecursion (λ (p : Piece). p.size ≤ most) pieces

@@ -1,6 +1,6 @@
 //! The entities of an input become parts of rows.
 
-ghost use Rattle.std.specs.Prelude.{◌≡◌, ◌≢◌, ◌≤◌, ℕ, List, [], Some, Err, IfOk, IfSome, IsTrue};
+ghost use Rattle.std.specs.Prelude.{◌≡◌, ◌≢◌, ◌*◌, ◌≤◌, ℕ, List, [], length, Some, Err, IfOk, IfSome, IsTrue};
 ghost use Rattle.mf_base.specs.Ranges.{is_rect};
 ghost use Rattle.mf_edge.specs.Device.{CountsOne};
 ghost use Rattle.mf_edge.specs.Spill.{SameStore};
@@ -8,8 +8,9 @@ ghost use Rattle.mf_edge.specs.Stream.{FailsWhere, IsWalk, at};
 ghost use Rattle.osm_model.specs.declared.limits.TheConstants.{BLOB_LIMIT, FRAME_LIMIT};
 ghost use Rattle.spill_parts.specs.Parts.{HasJust};
 ghost use Rattle.spill_parts.specs.Handed.{ingested_pieces};
-ghost use Rattle.mf_ingest.specs.Ingesting.{HasIngested};
-ghost use Rattle.mf_ingest.specs.Ingest.{TellsIngest, TellsIngestOf, TellsFill, TellsFillOf, HasSmallParts, told_pass};
+ghost use Rattle.extract_pass.specs.EntityPass.{TellsPass, TellsPassOf};
+ghost use Rattle.mf_ingest.specs.Ingesting.{HasIngested, HasFailed, most_per_byte};
+ghost use Rattle.mf_ingest.specs.Ingest.{TellsIngest, TellsIngestOf, HasSmallParts, AreWithin, told_pass};
 
 use crate::gathering::Gathering;
 use crate::ingester::Ingester;
@@ -60,6 +61,10 @@ pub fn ingest<S: Source, P: Spill>(
     // The box, where the input gives one, is a rectangle on the earth, each least side at most its greatest.
     ensures on_earth { IfOk result (λ found. IfSome found.bounds (λ box. IsTrue (is_rect box))) }
 
+    // No part has more than this many bytes for each byte of the input.
+    ensures sizes { (all : List ℕ) → (at S.state src.old).source.left ≡ Some all
+        → IfOk result (λ found. AreWithin (most_per_byte * length all) (ingested_pieces found)) }
+
     ensures just { IfOk result (λ found. HasJust (ingested_pieces found) (P.state spill.new)) }
     ensures faults { FailsWhere (result ≡ Err IngestFault.Read) (at S.state src.old) (at S.state src.new) }
     ensures spill { result ≡ Err IngestFault.Spill → CountsOne (P.state spill.old).faults (P.state spill.new).faults }
@@ -81,7 +86,7 @@ pub fn ingest<S: Source, P: Spill>(
     let mut ingester = Ingester::new(mapping, spill, parts);
     match fill(src, block, strings, &mut ingester) {
         Ok(bounds) => Ok(ingester.finish(bounds)),
-        Err(fault) => Err(fault),
+        Err(fault) => Err(ingest_fault(fault)),
     }
 }
 
@@ -91,18 +96,19 @@ fn fill<S: Source, P: Spill>(
     block: &mut Block,
     strings: &mut Strings,
     ingester: &mut Ingester<'_, P>,
-) -> Result<Option<Rect>, IngestFault>
+) -> Result<Option<Rect>, PassFault>
     requires room { BLOB_LIMIT ≤ block.old.capacity }
     requires start { (at S.state src.old).offset ≡ 0 }
     requires begun { HasIngested P.state ingester.old ingester.old [] }
-    ensures told { TellsFill (HasIngested P.state ingester.old ingester.new) (at S.state src.old) result
-        (at S.state src.new) }
+    ensures told { TellsPass (HasIngested P.state ingester.old ingester.new)
+        (HasFailed P.state ingester.old ingester.new) (at S.state src.old) result (at S.state src.new) }
     ensures exact { (all : List ℕ) → (at S.state src.old).source.left ≡ Some all
-        → TellsFillOf (HasIngested P.state ingester.old ingester.new) all result }
-    ensures faults { FailsWhere (result ≡ Err IngestFault.Read) (at S.state src.old) (at S.state src.new) }
-    ensures spill { result ≡ Err IngestFault.Spill
+        → TellsPassOf (HasIngested P.state ingester.old ingester.new) (HasFailed P.state ingester.old ingester.new) all
+        result }
+    ensures faults { FailsWhere (result ≡ Err PassFault.Read) (at S.state src.old) (at S.state src.new) }
+    ensures spill { result ≡ Err PassFault.Stopped
         → CountsOne (P.state ingester.old.spill.now).faults (P.state ingester.new.spill.now).faults }
-    ensures same_store { result ≢ Err IngestFault.Spill
+    ensures same_store { result ≢ Err PassFault.Stopped
         → (P.state ingester.new.spill.now).faults ≡ (P.state ingester.old.spill.now).faults }
     ensures same { SameStore (P.state ingester.old.spill.now) (P.state ingester.new.spill.now) }
     ensures within { (all : List ℕ) → (at S.state src.old).source.left ≡ Some all → HasSmallParts all
@@ -111,10 +117,7 @@ fn fill<S: Source, P: Spill>(
     ensures walk { IsWalk FRAME_LIMIT (at S.state src.old) (at S.state src.new) }
     ensures capacity { block.new.capacity ≡ block.old.capacity }
 {
-    match read_entities(src, block, strings, ingester) {
-        Ok(bounds) => Ok(bounds),
-        Err(fault) => Err(ingest_fault(fault)),
-    }
+    read_entities(src, block, strings, ingester)
 }
 
 // The fault of a pass whose reader stops only where the store fails.

@@ -36,8 +36,8 @@ pub(crate) const WAYS: &[u8] =
     b"\x12\x10\x1A\x0E\x08\x05\x12\x01\x03\x1A\x01\x04B\x04\x04\x03\x05\x08\
     \x12\x07\x1A\x05\x08\x06B\x01\x02";
 
-/// Multipolygon 7 of way 5 as outer, node 6, a way that is none, way 6 as inner, way 9 without a role, and way 8 as part;
-/// and relation 8, which is no multipolygon, of way 5.
+/// Multipolygon 7 of way 5 as outer, node 6, a way that is none, way 6 as inner, way 9 without a role, and way 8 as
+/// part; and relation 8, which is no multipolygon, of way 5.
 pub(crate) const RELATIONS: &[u8] =
     b"\x12$\x22\x22\x08\x07\x12\x02\x05\x07\x1A\x02\x06\x08B\x06\x09\x09\x0A\x0A\x00\x0B\
     J\x06\x0A\x02\x0F\x10\x06\x01R\x06\x01\x00\x01\x01\x01\x01\
