@@ -89,7 +89,8 @@ module _ {K : Type 0} (kind : Kind K) (laws : HasLaws kind) where
 
   -- Rows with rising keys, each as often as among others, are the order of these.
   pub ordered-by_keys : (rows others : List K) → AllByRecursion (IsOf kind) rows → AllByRecursion (IsOf kind) others
-      → EachPair (RowBefore kind) others → ((f : K → ℕ) → total f rows ≡ total f others) → ordered_rows kind rows ≡ others
+      → EachPair (RowBefore kind) others → ((f : K → ℕ) → total f rows ≡ total f others)
+      → ordered_rows kind rows ≡ others
   ordered-by_keys rows others all also up same =
       sym (read-back (ordered_rows kind rows) (all-ordered kind (IsOf kind) rows all))
       ∙ ap (map kind.row_of) (bytes-are rows others also up same) ∙ read-back others also

@@ -5,3 +5,4 @@ pub mod Put
 pub mod RowRoom
 pub mod RowOrder
 pub mod RowCount
+pub mod RowReading

@@ -55,7 +55,8 @@ shapes-numbered limit list rows is known = record {
   rise = all_pairs NumberBelow is.spelled
       (rises-unmap (λ m n. m < n) (λ (s : Spelled). s.told.head.number) is.spelled
       (subst (EachPair (λ m n. m < n)) (sym is.numbers) (rises-range 0 (length list))));
-  rows = all-blocks (IsOf shape_kind) shape_rows is.spelled (subst (AllByRecursion (IsOf shape_kind)) is.rows_are known);
+  rows =
+      all-blocks (IsOf shape_kind) shape_rows is.spelled (subst (AllByRecursion (IsOf shape_kind)) is.rows_are known);
 }
 
 pub ruleset order_laws = (rows-ordered)

@@ -1,6 +1,6 @@
 -- The rows that are put, and those of the tiles, are rows of their kind.
-use Rattle.std.proofs.Common.{◌≡◌, ℕ, ◌≤◌, List, [], arith, refl, true, false}
-use Rattle.std.specs.Prelude.{Bool, cond, leb, flat_map, IsTrue}
+use Rattle.std.proofs.Common.{◌≡◌, ℕ, ◌<◌, ◌≤◌, List, [], arith, refl, true, false}
+use Rattle.std.specs.Prelude.{Bool, max, cond, leb, flat_map, IsTrue}
 use Rattle.std.specs.List.{enumerate_from, AllByRecursion}
 use Rattle.std.proofs.lemmas.Bool.{leb-true, and_parts}
 use Rattle.mf_base.specs.declared.place.Rect.{Rect}
@@ -34,16 +34,10 @@ class-small false = omega arith
 unit-room : (tile : TilePlace) → HasRoom tile → (s : Spelled) → (shown s).zoom ≤ tile.interval.max → (at : ℕ × Unit16)
     → IsOf shape_kind (shape_row_of s.told.head.number at) → IsTileRow (unit_row tile s at.0 at.1)
 unit-room tile room s zoom at h =
-    let low = room.range in let most = room.most in let index = room.index in let y = room.y in let x = room.x in (
-      omega (arith, index),
-      (
-        omega (arith, y),
-        (
-          omega (arith, x),
-          (omega (arith, class-small (is_poi (shown s))), (omega (arith, zoom, low, most), (h.0, (h.1.0, (h.1.1.0, tt))))),
-        ),
-      ),
-    )
+    let low = room.range in let most = room.most in let index = room.index in let y = room.y in let x = room.x in
+    let class = class-small (is_poi (shown s)) in
+    let in_zoom : max (shown s).zoom tile.interval.min < 256 = omega (arith, zoom, low, most) in
+    (omega (arith, index), (omega (arith, y), (omega (arith, x), (omega (arith, class), (in_zoom, h)))))
 
 member-room : (tile : TilePlace) → HasRoom tile → (s : Spelled) → HasRows s → (shown s).zoom ≤ tile.interval.max
     → AllByRecursion IsTileRow (member_rows tile s)

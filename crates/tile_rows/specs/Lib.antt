@@ -1,1 +1,2 @@
 pub mod TileRows
+pub mod Reading

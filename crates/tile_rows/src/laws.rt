@@ -1,6 +1,6 @@
 //! Laws of the rows of tiles.
 
-ghost use Rattle.std.specs.Prelude.{◌≡◌, ◌≤◌, ℕ, List, map, length, sum_by, IsTrue};
+ghost use Rattle.std.specs.Prelude.{◌≡◌, ◌≤◌, ℕ, List, [], ◌∷◌, ◌++◌, map, length, sum_by, IsTrue, AllPairs, false};
 ghost use Rattle.std.specs.List.{AllByRecursion};
 ghost use Rattle.mf_base.specs.declared.place.Rect.{Rect};
 ghost use Rattle.mf_base.specs.declared.tile.TilePlace.{TilePlace};
@@ -9,14 +9,15 @@ ghost use Rattle.map_model.specs.Header.{HeadSettings};
 ghost use Rattle.map_model.specs.MapFile.{all_tiles, tile_weight};
 ghost use Rattle.map_model.specs.Intervals.{are_intervals};
 ghost use Rattle.map_model.specs.Members.{members};
-ghost use Rattle.map_model.specs.NumberedMembers.{members_by};
+ghost use Rattle.map_model.specs.NumberedMembers.{TileBelow, members_by};
 ghost use Rattle.mf_rows.specs.RowKinds.{IsOf};
 ghost use Rattle.mf_rows.specs.Kinds.{shape_kind, tile_kind};
 ghost use Rattle.mf_rows.specs.declared.kinds.ShapeRow.{ShapeRow};
 ghost use Rattle.mf_rows.specs.declared.kinds.TileRow.{TileRow};
 ghost use Rattle.spill_parts.specs.Parts.{ordered_rows};
 ghost use Rattle.spill_parts.specs.Shaped.{Spelled, IsLight, AreShapes};
-ghost use Rattle.tile_rows.specs.TileRows.{shown, member_rows, put_rows, all_tile_rows, AreNumbered};
+ghost use Rattle.tile_rows.specs.TileRows.{shown, member_rows, put_rows, rows_of_tiles, all_tile_rows, AreNumbered};
+ghost use Rattle.tile_rows.specs.Reading.{is_row_of, rows_from, BeginsMember};
 
 /// The rows that are put, in the order of a part, are tile after tile those of its members; and no more rows are put
 /// than all tiles weigh.
@@ -41,4 +42,27 @@ pub fn rows_of_members()
 pub fn shapes_are_numbered()
     ensures { (limit : ℕ) (list : List Feature) (rows : List ShapeRow) (is : AreShapes limit list rows)
         → AllByRecursion (IsOf shape_kind) rows → AreNumbered is.spelled }
+{}
+
+/// A reader of the ordered rows finds each tile's members in order: a row of the tile begins the next member, and any
+/// other row, or none, comes behind the last.
+pub fn rows_are_read_by_tile()
+    ensures later { (set : HeadSettings) (box : Rect) (before : List TilePlace) (tile : TilePlace)
+        (later : List TilePlace) → all_tiles set box ≡ before ++ tile ∷ later → AllPairs TileBelow (tile ∷ later) }
+
+    // Before its first row all members of a tile are left, and behind its last the rows of the later tiles.
+    ensures at_tile { (list : List Spelled) (tile : TilePlace) (later : List TilePlace)
+        → rows_of_tiles list (tile ∷ later) ≡ rows_from list tile (members_by shown list tile) later }
+    ensures past_tile { (list : List Spelled) (tile : TilePlace) (later : List TilePlace)
+        → rows_from list tile [] later ≡ rows_of_tiles list later }
+
+    ensures begins { (list : List Spelled) (tile : TilePlace) (rest : List Spelled) (later : List TilePlace)
+        (row : TileRow) (left : List TileRow) → AllPairs TileBelow (tile ∷ later)
+        → row ∷ left ≡ rows_from list tile rest later → IsTrue (is_row_of tile row)
+        → BeginsMember list tile rest later row left }
+    ensures tile_ends { (list : List Spelled) (tile : TilePlace) (rest : List Spelled) (later : List TilePlace)
+        (row : TileRow) (left : List TileRow) → row ∷ left ≡ rows_from list tile rest later
+        → is_row_of tile row ≡ false → rest ≡ [] }
+    ensures rows_end { (list : List Spelled) (tile : TilePlace) (rest : List Spelled) (later : List TilePlace)
+        → [] ≡ rows_from list tile rest later → rest ≡ [] }
 {}
