@@ -6,3 +6,4 @@ pub mod RowRoom
 pub mod RowOrder
 pub mod RowCount
 pub mod RowReading
+pub mod RecordRuns

@@ -16,5 +16,3 @@ members-are list tile = members-shown shown (λ s. s.told.head.number) list tile
 pub units-are : (tile : TilePlace) (s : Spelled) → map (λ (r : TileRow). r.unit) (member_rows tile s) ≡ s.units
 unfolding member_rows
 units-are tile s = rows-units (unit_row tile s) (λ r. r.unit) (λ n u. refl) s.units
-
-pub ruleset member_laws = (members-are, units-are)

@@ -49,20 +49,31 @@ tile-weight list tile =
     ∙ total-same (λ (s : Spelled). (shown s).weight) (λ (s : Spelled). s.told.head.weight) shown-weight
     (members_by shown list tile)
 
+pub weight-told : (list : List Spelled) (tile : TilePlace) → tile_weight (map shown list) tile
+    ≡ sum_by (λ (s : Spelled). s.told.head.weight) (members_by shown list tile)
+weight-told list tile = tile-weight list tile
+    ∙ sym (sum-total (λ (s : Spelled). s.told.head.weight) (members_by shown list tile))
+
+-- what holds of all features by their weights holds of the members
+pub members-light : (limit : ℕ) (list : List Spelled) (tile : TilePlace) → AllByRecursion (IsLight limit) list
+    → AllByRecursion (IsLight limit) (members_by shown list tile)
+members-light limit list tile light =
+    all-imp (λ s. IsLight limit s × (is_in_tile tile (shown s) ≡ true)) (IsLight limit) (λ s h. h.0)
+    (members_by shown list tile) (members-all shown (λ s. s.told.head.number) (IsLight limit) list tile light)
+
 total-le : {X : Type 0} (f g : X → ℕ) (xs : List X) → AllByRecursion (λ x. f x ≤ g x) xs → total f xs ≤ total g xs
 total-le f g [] h = omega arith
 total-le f g (x ∷ xs) h = let first = h.0 in omega (arith, first, total-le f g xs h.1)
 
-tile-within : (limit : ℕ) (list : List Spelled) → AllByRecursion (IsLight limit) list → (tile : TilePlace)
+pub tile-within : (limit : ℕ) (list : List Spelled) (tile : TilePlace) → AllByRecursion (IsLight limit) list
     → length (tile_rows list tile) ≤ tile_weight (map shown list) tile
-tile-within limit list light tile =
+tile-within limit list tile light =
     let units = tile-length list tile in
     let weight = tile-weight list tile in
     let le = total-le (λ (s : Spelled). length s.units) (λ (s : Spelled). s.told.head.weight)
     (members_by shown list tile)
-    (all-imp (λ s. IsLight limit s × (is_in_tile tile (shown s) ≡ true))
-    (λ (s : Spelled). length s.units ≤ s.told.head.weight) (λ s h. h.0.units) (members_by shown list tile)
-    (members-all shown (λ s. s.told.head.number) (IsLight limit) list tile light)) in
+    (all-imp (IsLight limit) (λ (s : Spelled). length s.units ≤ s.told.head.weight) (λ s h. h.units)
+    (members_by shown list tile) (members-light limit list tile light)) in
     omega (arith, units, weight, le)
 
 pub rows-within : (limit : ℕ) (set : HeadSettings) (box : Rect) (list : List Spelled)
@@ -75,7 +86,7 @@ rows-within limit set box list intervals light =
     let each = total-same (λ t. total (λ row. 1) (tile_rows list t)) (λ t. length (tile_rows list t))
     (λ t. sym (length-total (tile_rows list t))) (all_tiles set box) in
     let le = total-le (λ t. length (tile_rows list t)) (tile_weight (map shown list)) (all_tiles set box)
-    (all-from (λ t. length (tile_rows list t) ≤ tile_weight (map shown list) t) (tile-within limit list light)
+    (all-from (λ t. length (tile_rows list t) ≤ tile_weight (map shown list) t) (λ t. tile-within limit list t light)
     (all_tiles set box)) in
     let weights = sum-total (tile_weight (map shown list)) (all_tiles set box) in
     omega (arith, put, each, le, weights)

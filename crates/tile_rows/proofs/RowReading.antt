@@ -1,8 +1,9 @@
 -- A reader of the ordered rows takes them member by member and tile by tile.
-use Rattle.std.proofs.Common.{◌≡◌, ℕ, List, [], ◌∷◌, ◌++◌, map, refl, sym, ap, ◌∙◌, subst, arith, true, false}
-use Rattle.std.proofs.Common.{inl, inr, append_assoc, Some}
+use Rattle.std.proofs.Common.{◌≡◌, ℕ, List, [], ◌∷◌, ◌++◌, refl, sym, ap, ◌∙◌, subst, arith, true, false}
+use Rattle.std.proofs.Common.{inl, inr, append_assoc}
 use Rattle.std.specs.Prelude.{flat_map, ◌==◌, ◌&&◌, IsTrue, AllPairs}
 use Rattle.std.specs.List.{enumerate_from, AllByRecursion}
+use Rattle.std.proofs.lemmas.List.{append-nil}
 use Rattle.std.proofs.lemmas.Bool.{and_parts, eqb-true, eq-eqb, false≢true}
 use Rattle.mf_base.specs.declared.place.Rect.{Rect}
 use Rattle.mf_base.specs.declared.tile.TilePlace.{TilePlace}
@@ -13,73 +14,40 @@ use Rattle.map_model.specs.MapFile.{all_tiles}
 use Rattle.map_model.specs.NumberedMembers.{TileBelow, members_by}
 use Rattle.map_model.proofs.AllTiles.{tiles-rise}
 use Rattle.mf_rows.specs.Units.{Unit16}
-use Rattle.mf_rows.specs.Records.{Record}
-use Rattle.mf_rows.specs.RecordUnits.{record_in}
+use Rattle.mf_rows.specs.declared.kinds.ShapeRow.{ShapeRow}
 use Rattle.mf_rows.specs.declared.kinds.TileRow.{TileRow}
-use Rattle.spill_parts.specs.Shaped.{Spelled}
-use Rattle.unit_rows.specs.Runs.{going_on, next_on, BeginsRecord}
-use Rattle.unit_rows.proofs.RunsOf.{rows_at, record-ends}
+use Rattle.spill_parts.specs.Shaped.{Spelled, shape_row_of, shape_rows}
+use Rattle.unit_rows.specs.Runs.{BeginsRecord}
+use Rattle.unit_rows.proofs.RunsOf.{rows_at}
 use Rattle.tile_rows.specs.TileRows.{shown, unit_row, member_rows, tile_rows, rows_of_tiles}
-use Rattle.tile_rows.specs.Reading.{is_row_of, rows_from, BeginsMember}
-use Rattle.tile_rows.proofs.MemberRows.{units-are}
-
-cons-head : {X : Type 0} {x y : X} {xs ys : List X} → x ∷ xs ≡ y ∷ ys → x ≡ y
-cons-head e = cc
-
-cons-tail : {X : Type 0} {x y : X} {xs ys : List X} → x ∷ xs ≡ y ∷ ys → xs ≡ ys
-cons-tail e = cc
-
--- ---- a member has rows
-
--- no units spell no record
-none-spelled : (r : Record) → record_in [] ≡ Some r → ⊥
-unfolding record_in
-none-spelled r e = cc
-
--- the first unit of a member, and the others
-record HasFirst (tile : TilePlace) (s : Spelled) : Type 0 where
-  first : Unit16
-  others : List Unit16
-  rows_are : member_rows tile s ≡ unit_row tile s 0 first ∷ rows_at (unit_row tile s) 1 others
-
-has-first : (tile : TilePlace) (s : Spelled) → HasFirst tile s
-unfolding member_rows
-has-first tile s = by_units s.units refl
-  where
-    by_units : (units : List Unit16) → s.units ≡ units → HasFirst tile s
-    by_units [] e = absurd (none-spelled s.told (sym (ap record_in e) ∙ s.spells))
-    by_units (u ∷ units) e = record { first = u; others = units; rows_are = ap (rows_at (unit_row tile s) 0) e }
+use Rattle.tile_rows.specs.Reading.{is_row_of, rows_from, BeginsMember, BeginsFeature}
+use Rattle.tile_rows.proofs.RecordRuns.{cons-head, HasFirst, has-first, begin-rows, run}
 
 -- the rows of a member come before those that follow it
 member-next : (list : List Spelled) (tile : TilePlace) (s : Spelled) (more : List Spelled) (later : List TilePlace)
-    → (h : HasFirst tile s) → rows_from list tile (s ∷ more) later
-    ≡ unit_row tile s 0 h.first ∷ (rows_at (unit_row tile s) 1 h.others ++ rows_from list tile more later)
-member-next list tile s more later h =
+    → rows_from list tile (s ∷ more) later ≡ member_rows tile s ++ rows_from list tile more later
+member-next list tile s more later =
     append_assoc (member_rows tile s) (flat_map (member_rows tile) more) (rows_of_tiles list later)
-    ∙ ap (λ rows. rows ++ rows_from list tile more later) h.rows_are
 
--- ---- rows begin with the first of a record
-
-begin-member : (tile : TilePlace) (s : Spelled) (tail : List TileRow)
-    → BeginsRecord (λ (r : TileRow). r.place) (member_rows tile s ++ tail)
-begin-member tile s tail = let h = has-first tile s in
-    subst (λ rows. BeginsRecord (λ (r : TileRow). r.place) (rows ++ tail)) (sym h.rows_are) refl
-
-begin-members : (tile : TilePlace) (members : List Spelled) (tail : List TileRow)
-    → BeginsRecord (λ (r : TileRow). r.place) tail
-    → BeginsRecord (λ (r : TileRow). r.place) (flat_map (member_rows tile) members ++ tail)
-begin-members tile [] tail begins = begins
-begin-members tile (s ∷ members) tail begins =
-    subst (BeginsRecord (λ (r : TileRow). r.place))
-    (sym (append_assoc (member_rows tile s) (flat_map (member_rows tile) members) tail))
-    (begin-member tile s (flat_map (member_rows tile) members ++ tail))
+-- so its first row is the next
+member-first : (list : List Spelled) (tile : TilePlace) (s : Spelled) (more : List Spelled) (later : List TilePlace)
+    (h : HasFirst (unit_row tile) s) → rows_from list tile (s ∷ more) later
+    ≡ unit_row tile s 0 h.first ∷ (rows_at (unit_row tile s) 1 h.others ++ rows_from list tile more later)
+unfolding member_rows
+member-first list tile s more later h = member-next list tile s more later
+    ∙ ap (λ (rows : List TileRow). rows ++ rows_from list tile more later) h.rows_are
 
 begin-tiles : (list : List Spelled) (tiles : List TilePlace)
     → BeginsRecord (λ (r : TileRow). r.place) (rows_of_tiles list tiles)
-unfolding rows_of_tiles tile_rows
+unfolding rows_of_tiles tile_rows member_rows
 begin-tiles list [] = tt
 begin-tiles list (t ∷ tiles) =
-    begin-members t (members_by shown list t) (flat_map (tile_rows list) tiles) (begin-tiles list tiles)
+    begin-rows (unit_row t) (λ (r : TileRow). r.place) (λ s n u. refl) (members_by shown list t)
+    (flat_map (tile_rows list) tiles) (begin-tiles list tiles)
+
+-- a unit of a feature as a row of shapes
+abbrev shape_row : Spelled → ℕ → Unit16 → ShapeRow
+shape_row s place unit = shape_row_of s.told.head.number (place, unit)
 
 -- ---- whose a row is
 
@@ -147,25 +115,16 @@ pub row-begins : (list : List Spelled) (tile : TilePlace) (rest : List Spelled) 
     (row : TileRow) (left : List TileRow) → AllPairs TileBelow (tile ∷ later)
     → row ∷ left ≡ rows_from list tile rest later → IsTrue (is_row_of tile row)
     → BeginsMember list tile rest later row left
+unfolding member_rows
 row-begins list tile [] later row left below e of =
     absurd ((subst (AllByRecursion (λ row. is_row_of tile row ≡ true → ⊥)) (sym e)
     (later-apart list tile later (each_pair TileBelow (tile ∷ later) below).0)).0 of)
 row-begins list tile (s ∷ more) later row left below e of =
-    let h = has-first tile s in
-    let front = e ∙ member-next list tile s more later h in
-    let tail = rows_from list tile more later in
-    let ends = record-ends (unit_row tile s) (λ (r : TileRow). r.place) (λ n u. refl) h.first h.others tail
-    (begin-members tile more (rows_of_tiles list later) (begin-tiles list later)) in
-    let on : going_on (λ (r : TileRow). r.place) left ≡ rows_at (unit_row tile s) 1 h.others =
-    ap (going_on (λ (r : TileRow). r.place)) (cons-tail front) ∙ ends.0 in
-    record {
-      member = s;
-      more = more;
-      rest_are = refl;
-      units_are = ap (map (λ (r : TileRow). r.unit)) ((λ i. cons-head front i ∷ on i) ∙ sym h.rows_are)
-          ∙ units-are tile s;
-      left_are = ap (next_on (λ (r : TileRow). r.place)) (cons-tail front) ∙ ends.1;
-    }
+    let told = run (unit_row tile) (λ (r : TileRow). r.place) (λ s n u. refl) (λ (r : TileRow). r.unit)
+    (λ s n u. refl) s (rows_from list tile more later) row left
+    (begin-rows (unit_row tile) (λ (r : TileRow). r.place) (λ s n u. refl) more (rows_of_tiles list later)
+    (begin-tiles list later)) (e ∙ member-next list tile s more later) in
+    record { member = s; more = more; rest_are = refl; units_are = told.0; left_are = told.1 }
 
 -- A row of another tile comes behind the last member.
 pub tile-ends : (list : List Spelled) (tile : TilePlace) (rest : List Spelled) (later : List TilePlace)
@@ -173,8 +132,8 @@ pub tile-ends : (list : List Spelled) (tile : TilePlace) (rest : List Spelled) (
     → is_row_of tile row ≡ false → rest ≡ []
 tile-ends list tile [] later row left e off = refl
 tile-ends list tile (s ∷ more) later row left e off =
-    let h = has-first tile s in
-    let first : row ≡ unit_row tile s 0 h.first = cons-head (e ∙ member-next list tile s more later h) in
+    let h = has-first (unit_row tile) s in
+    let first : row ≡ unit_row tile s 0 h.first = cons-head (e ∙ member-first list tile s more later h) in
     absurd (false≢true (sym off ∙ ap (is_row_of tile) first ∙ own-tile tile s 0 h.first))
 
 -- So does the end of the rows.
@@ -182,4 +141,25 @@ pub rows-end : (list : List Spelled) (tile : TilePlace) (rest : List Spelled) (l
     → [] ≡ rows_from list tile rest later → rest ≡ []
 rows-end list tile [] later e = refl
 rows-end list tile (s ∷ more) later e =
-    let none = e ∙ member-next list tile s more later (has-first tile s) in absurd (cc none)
+    let none = e ∙ member-first list tile s more later (has-first (unit_row tile) s) in absurd (cc none)
+
+-- ---- the rows of features
+
+-- The rows of features, taken feature by feature.
+pub feature-begins : (list : List Spelled) (row : ShapeRow) (left : List ShapeRow)
+    → row ∷ left ≡ flat_map shape_rows list → BeginsFeature list row left
+feature-begins [] row left e = absurd (cc e)
+feature-begins (s ∷ more) row left e =
+    let told = run shape_row (λ (r : ShapeRow). r.place) (λ s n u. refl) (λ (r : ShapeRow). r.unit) (λ s n u. refl) s
+    (flat_map shape_rows more) row left begins e in
+    record { feature = s; more = more; list_is = refl; units_are = told.0; left_are = told.1 }
+  where
+    begins : BeginsRecord (λ (r : ShapeRow). r.place) (flat_map shape_rows more)
+    begins = subst (BeginsRecord (λ (r : ShapeRow). r.place)) (append-nil (flat_map shape_rows more))
+        (begin-rows shape_row (λ (r : ShapeRow). r.place) (λ s n u. refl) more [] tt)
+
+pub features-end : (list : List Spelled) → [] ≡ flat_map shape_rows list → list ≡ []
+features-end [] e = refl
+features-end (s ∷ more) e =
+    let none = e ∙ ap (λ (rows : List ShapeRow). rows ++ flat_map shape_rows more) (has-first shape_row s).rows_are in
+    absurd (cc none)

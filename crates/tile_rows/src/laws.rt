@@ -1,6 +1,7 @@
 //! Laws of the rows of tiles.
 
-ghost use Rattle.std.specs.Prelude.{◌≡◌, ◌≤◌, ℕ, List, [], ◌∷◌, ◌++◌, map, length, sum_by, IsTrue, AllPairs, false};
+ghost use Rattle.std.specs.Prelude.{◌≡◌, ◌≤◌, ℕ, List, [], ◌∷◌, ◌++◌};
+ghost use Rattle.std.specs.Prelude.{map, length, sum_by, IsTrue, AllPairs, false, flat_map};
 ghost use Rattle.std.specs.List.{AllByRecursion};
 ghost use Rattle.mf_base.specs.declared.place.Rect.{Rect};
 ghost use Rattle.mf_base.specs.declared.tile.TilePlace.{TilePlace};
@@ -15,9 +16,10 @@ ghost use Rattle.mf_rows.specs.Kinds.{shape_kind, tile_kind};
 ghost use Rattle.mf_rows.specs.declared.kinds.ShapeRow.{ShapeRow};
 ghost use Rattle.mf_rows.specs.declared.kinds.TileRow.{TileRow};
 ghost use Rattle.spill_parts.specs.Parts.{ordered_rows};
-ghost use Rattle.spill_parts.specs.Shaped.{Spelled, IsLight, AreShapes};
-ghost use Rattle.tile_rows.specs.TileRows.{shown, member_rows, put_rows, rows_of_tiles, all_tile_rows, AreNumbered};
-ghost use Rattle.tile_rows.specs.Reading.{is_row_of, rows_from, BeginsMember};
+ghost use Rattle.spill_parts.specs.Shaped.{Spelled, shape_rows, IsLight, AreShapes};
+ghost use Rattle.tile_rows.specs.TileRows.{shown, member_rows, put_rows};
+ghost use Rattle.tile_rows.specs.TileRows.{tile_rows, rows_of_tiles, all_tile_rows, AreNumbered};
+ghost use Rattle.tile_rows.specs.Reading.{is_row_of, rows_from, BeginsMember, BeginsFeature};
 
 /// The rows that are put, in the order of a part, are tile after tile those of its members; and no more rows are put
 /// than all tiles weigh.
@@ -31,11 +33,18 @@ pub fn rows_in_order()
 {}
 
 /// The records whose rows a tile has show its members in order, and the rows of a record have its units.
-#[tactic(auto, using(crate::proofs::MemberRows::member_laws))]
 pub fn rows_of_members()
     ensures members { (list : List Spelled) (tile : TilePlace)
         → map shown (members_by shown list tile) ≡ members (map shown list) tile }
     ensures units { (tile : TilePlace) (s : Spelled) → map (λ (r : TileRow). r.unit) (member_rows tile s) ≡ s.units }
+
+    // A tile weighs what the heads of its members tell, and has at most as many rows.
+    ensures weight { (list : List Spelled) (tile : TilePlace) → tile_weight (map shown list) tile
+        ≡ sum_by (λ (s : Spelled). s.told.head.weight) (members_by shown list tile) }
+    ensures many { (limit : ℕ) (list : List Spelled) (tile : TilePlace) → AllByRecursion (IsLight limit) list
+        → length (tile_rows list tile) ≤ tile_weight (map shown list) tile }
+    ensures light { (limit : ℕ) (list : List Spelled) (tile : TilePlace) → AllByRecursion (IsLight limit) list
+        → AllByRecursion (IsLight limit) (members_by shown list tile) }
 {}
 
 /// The records that rows of shapes spell are numbered, and each has rows, where the rows are those of a part.
@@ -65,4 +74,11 @@ pub fn rows_are_read_by_tile()
         → is_row_of tile row ≡ false → rest ≡ [] }
     ensures rows_end { (list : List Spelled) (tile : TilePlace) (rest : List Spelled) (later : List TilePlace)
         → [] ≡ rows_from list tile rest later → rest ≡ [] }
+{}
+
+/// A reader of the rows of features finds them one behind another.
+pub fn features_are_read()
+    ensures begins { (list : List Spelled) (row : ShapeRow) (left : List ShapeRow)
+        → row ∷ left ≡ flat_map shape_rows list → BeginsFeature list row left }
+    ensures ends { (list : List Spelled) → [] ≡ flat_map shape_rows list → list ≡ [] }
 {}
