@@ -7,3 +7,4 @@ pub mod RowOrder
 pub mod RowCount
 pub mod RowReading
 pub mod RecordRuns
+pub mod PutSteps

@@ -1,14 +1,18 @@
 //! Laws of the rows of tiles.
 
 ghost use Rattle.std.specs.Prelude.{◌≡◌, ◌≤◌, ℕ, List, [], ◌∷◌, ◌++◌};
-ghost use Rattle.std.specs.Prelude.{map, length, sum_by, IsTrue, AllPairs, false, flat_map};
+ghost use Rattle.std.specs.Prelude.{◌<◌, Some, None, map, length, sum_by, IsTrue, AllPairs, false, flat_map};
 ghost use Rattle.std.specs.List.{AllByRecursion};
 ghost use Rattle.mf_base.specs.declared.place.Rect.{Rect};
+ghost use Rattle.mf_base.specs.declared.tile.Interval.{Interval};
 ghost use Rattle.mf_base.specs.declared.tile.TilePlace.{TilePlace};
+ghost use Rattle.mf_base.specs.declared.tile.TileRect.{TileRect};
 ghost use Rattle.feature_model.specs.Features.{Feature};
 ghost use Rattle.map_model.specs.Header.{HeadSettings};
 ghost use Rattle.map_model.specs.MapFile.{all_tiles, tile_weight};
-ghost use Rattle.map_model.specs.Intervals.{are_intervals};
+ghost use Rattle.map_model.specs.Intervals.{are_intervals, tile_place};
+ghost use Rattle.map_model.specs.Rectangles.{rect_of};
+ghost use Rattle.map_model.specs.TileRects.{common, tile_rect, from_to};
 ghost use Rattle.map_model.specs.Members.{members};
 ghost use Rattle.map_model.specs.NumberedMembers.{TileBelow, members_by};
 ghost use Rattle.mf_rows.specs.RowKinds.{IsOf};
@@ -17,7 +21,7 @@ ghost use Rattle.mf_rows.specs.declared.kinds.ShapeRow.{ShapeRow};
 ghost use Rattle.mf_rows.specs.declared.kinds.TileRow.{TileRow};
 ghost use Rattle.spill_parts.specs.Parts.{ordered_rows};
 ghost use Rattle.spill_parts.specs.Shaped.{Spelled, shape_rows, IsLight, AreShapes};
-ghost use Rattle.tile_rows.specs.TileRows.{shown, member_rows, put_rows};
+ghost use Rattle.tile_rows.specs.TileRows.{shown, member_rows, interval_rows, feature_rows, put_rows};
 ghost use Rattle.tile_rows.specs.TileRows.{tile_rows, rows_of_tiles, all_tile_rows, AreNumbered};
 ghost use Rattle.tile_rows.specs.Reading.{is_row_of, rows_from, BeginsMember, BeginsFeature};
 
@@ -30,6 +34,24 @@ pub fn rows_in_order()
     ensures within { (limit : ℕ) (set : HeadSettings) (box : Rect) (list : List Spelled)
         → IsTrue (are_intervals set.intervals) → AllByRecursion (IsLight limit) list
         → length (put_rows set box list) ≤ sum_by (tile_weight (map shown list)) (all_tiles set box) }
+{}
+
+/// What is put, as loops put it: feature after feature, and for a feature in an interval row after row of the tiles
+/// that the box and its rectangle have in common.
+pub fn rows_are_put()
+    ensures one_more { (set : HeadSettings) (box : Rect) (list : List Spelled) (s : Spelled)
+        → put_rows set box (list ++ s ∷ []) ≡ put_rows set box list ++ feature_rows set box s }
+    ensures above { (box : Rect) (index : ℕ) (interval : Interval) (s : Spelled) → interval.max < (shown s).zoom
+        → interval_rows box index interval s ≡ [] }
+    ensures none { (box : Rect) (index : ℕ) (interval : Interval) (s : Spelled) → (shown s).zoom ≤ interval.max
+        → common (tile_rect box interval.base) (tile_rect (rect_of (shown s)) interval.base) ≡ None
+        → interval_rows box index interval s ≡ [] }
+    ensures shared { (box : Rect) (index : ℕ) (interval : Interval) (s : Spelled) (t : TileRect)
+        → (shown s).zoom ≤ interval.max
+        → common (tile_rect box interval.base) (tile_rect (rect_of (shown s)) interval.base) ≡ Some t
+        → interval_rows box index interval s
+        ≡ flat_map (λ y. flat_map (λ x. member_rows (tile_place index interval (x, y)) s)
+        (from_to t.first_x t.last_x)) (from_to t.first_y t.last_y) }
 {}
 
 /// The records whose rows a tile has show its members in order, and the rows of a record have its units.
