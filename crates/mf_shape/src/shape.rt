@@ -89,3 +89,6 @@ fn forget_parts<P: Spill>(found: Ingested, spill: &mut P)
     forget_part(spill, found.way_units);
     forget_part(spill, found.relation_units);
 }
+
+#[cfg(test)]
+mod tests;
