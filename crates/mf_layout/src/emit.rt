@@ -96,3 +96,6 @@ pub fn emit<T: TagSource, P: Spill, K: Sink, L: Ledger>(
     subs.tiles.forget(spill);
     Ok(())
 }
+
+#[cfg(test)]
+mod tests;
