@@ -1,0 +1,2 @@
+pub mod FromTo
+pub mod Putting
