@@ -1,2 +1,3 @@
 pub mod FromTo
 pub mod Putting
+pub mod Shared

@@ -1,6 +1,7 @@
 //! Features, spread over the tiles of a map: each unit of a feature becomes a row in each tile that has the feature.
 //!
-//! `tiles` puts the units of a feature in some tiles, `feature` in all that it is in.
+//! `tiles` puts the units of a feature in a rectangle of tiles, `interval` in those of an interval that it is in.
 #![tactic(auto)]
 
+mod interval;
 mod tiles;
