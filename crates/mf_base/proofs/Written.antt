@@ -86,3 +86,12 @@ pub be_front : (w v : ℕ) (rest : List ℕ) → take w (big_bytes w v ++ rest) 
 be_front w v rest = take_at (big_bytes w v) rest w (length-bytes_high_first w v)
 
 pub ruleset vbe_sizes = (length-vbe_unsigned-63, length-vbe_signed-63)
+
+-- a spelling of one byte, and one of two
+pub vbe-one : (last sign m : ℕ) → m < last → (m + sign) ∷ [] ≡ vbe last sign m
+vbe-one last sign m small = rw (vbe-small last sign m small) refl
+
+pub vbe-two : (last sign m : ℕ) → 0 < last → last ≤ m → m / 128 < last
+    → (128 + m % 128) ∷ (m / 128 + sign) ∷ [] ≡ vbe last sign m
+vbe-two last sign m some large small =
+    rw (vbe-more last sign m some large, vbe-small last sign (m / 128) small) refl

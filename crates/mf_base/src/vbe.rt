@@ -57,14 +57,33 @@ fn put_groups(out: &mut OutBuf, last: u8, sign: u8, magnitude: u64)
     ensures appends { AppendsTo out.old out.new (vbe last sign magnitude) }
     ensures most { length out.new.bytes ≤ length out.old.bytes + 10 }
 {
+    if magnitude < u64::from(last) {
+        out.put(&[magnitude as u8 + sign]);
+    } else if magnitude / 128 < u64::from(last) {
+        out.put(&[
+            128 + (magnitude % 128) as u8,
+            (magnitude / 128) as u8 + sign,
+        ]);
+    } else {
+        put_longer(out, last, sign, magnitude);
+    }
+}
+
+// The same of any magnitude, byte by byte.
+fn put_longer(out: &mut OutBuf, last: u8, sign: u8, magnitude: u64)
+    requires some { 0 < last }
+    requires byte { last + sign ≤ 128 }
+    requires short { length (vbe last sign magnitude) ≤ 10 }
+    requires room { HasRoom out.old 10 }
+    ensures appends { AppendsTo out.old out.new (vbe last sign magnitude) }
+{
     let mut bytes = [0; 10];
     let size = spell_groups(&mut bytes, last, sign, magnitude);
     out.put(&bytes[..size]);
 }
 
 // Spells at the front of bytes, and answers how many it takes: seven bits a byte while the rest is not below `last`,
-// then
-// the rest with the sign's bit.
+// then the rest with the sign's bit.
 fn spell_groups(bytes: &mut [u8; 10], last: u8, sign: u8, magnitude: u64) -> usize
     requires some { 0 < last }
     requires byte { last + sign ≤ 128 }
