@@ -2,7 +2,6 @@
 use Rattle.std.specs.Prelude.{◌≡◌, ℕ, zero, suc, ℤ, pos, negsuc, List, [], ◌∷◌, map, filter, flat_map, filter_map}
 use Rattle.std.specs.Prelude.{length, is_some, Option, Some, None, option_map, option_and_then, ⊤}
 use Rattle.std.specs.List.{enumerate_from}
-use Rattle.mf_base.specs.Spelling.{IsBytes}
 use Rattle.mf_base.specs.declared.kind.EntityKind.{EntityKind}
 use Rattle.mf_base.specs.declared.kind.Role.{Role}
 use Rattle.osm_model.specs.Entities.{Entity, Node, Way, Member, Relation, node, way, relation, nodes_of, ways_of}
@@ -139,7 +138,6 @@ ingested_rows found = record {
 -- The entities of an input that is accepted.
 pub record IsInput (entities : List Entity) : Type 0 where
   pub input : List ℕ
-  pub are_bytes : IsBytes input
   pub accepted : input_fault input ≡ None
   pub all : entities ≡ input_entities input
 

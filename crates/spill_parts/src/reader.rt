@@ -54,7 +54,7 @@ impl Model for Page {
 impl Page {
     /// Room for so many rows of any kind.
     pub fn new(alloc: Global, rows: u32) -> Result<Page, AllocError>
-        requires { (1 ≤ rows) × (rows < 2 ^ 24) }
+        requires { (1 ≤ rows) × (rows ≤ 16777216) }
         ensures { IfOk result (λ p. p.room ≡ rows) }
     {
         Ok(Page {
