@@ -1,0 +1,4 @@
+pub mod Heads
+pub mod Sums
+pub mod NextMember
+pub mod Tile
