@@ -13,6 +13,7 @@ use Rattle.mf_rows.specs.Records.{Record}
 use Rattle.mf_rows.specs.RecordUnits.{record_in}
 use Rattle.mf_rows.specs.Units.{Unit16}
 use Rattle.mf_rows.specs.declared.kinds.TileRow.{TileRow}
+use Rattle.spill_parts.specs.Join.{rest_of}
 use Rattle.spill_parts.specs.Shaped.{Spelled, IsLight}
 use Rattle.tile_rows.specs.TileRows.{shown}
 use Rattle.tile_rows.specs.Reading.{is_row_of, rows_from, BeginsMember}
@@ -20,7 +21,7 @@ use Rattle.tile_rows.proofs.RowCount.{members-light}
 use Rattle.tile_rows.proofs.RowReading.{row-begins}
 use Rattle.unit_rows.specs.Runs.{going_on, next_on}
 use Rattle.unit_rows.proofs.Loads.{take-all}
-use Rattle.tile_load.specs.Loading.{AreRead, weight_of, told_of}
+use Rattle.tile_load.specs.Loading.{AreRead, holds_row_of, weight_of}
 use Rattle.tile_load.proofs.Heads.{ten-units}
 use Rattle.tile_load.proofs.Sums.{sum-parts, sum-more, members-within}
 
@@ -34,10 +35,17 @@ abbrev unit : TileRow → Unit16
 unit row = row.unit
 
 module _ (limit : ℕ) (list : List Spelled) (tile : TilePlace) (later : List TilePlace) (weight : ℕ) (row : TileRow)
-    (left : List TileRow) (records : List Record)
-    (read : AreRead limit list tile later weight (row ∷ left) records)
-    (of : is_row_of tile row ≡ true)
+    (left : List TileRow) (records : List Record) (held : Option TileRow) (held-is : held ≡ Some row)
+    (read-before : AreRead limit list tile later weight (rest_of held left) records)
+    (of-tile : holds_row_of tile held ≡ true)
   where
+  abbrev read : AreRead limit list tile later weight (row ∷ left) records
+  read = subst (λ (h : Option TileRow). AreRead limit list tile later weight (rest_of h left) records) held-is
+      read-before
+
+  of : is_row_of tile row ≡ true
+  of = sym (ap (holds_row_of tile) held-is) ∙ of-tile
+
   -- the member that the row begins
   abbrev next : BeginsMember list tile read.more later row left
   next = row-begins list tile read.more later row left read.order read.rows_are of
@@ -53,7 +61,7 @@ module _ (limit : ℕ) (list : List Spelled) (tile : TilePlace) (later : List Ti
       (subst (AllByRecursion (IsLight limit)) members-are (members-light limit list tile read.light))).0
 
   -- the weights fit
-  pub fits : weight + m.told.head.weight < 2 ^ 63
+  fits : weight + m.told.head.weight < 2 ^ 63
   fits =
       let parts = sum-parts own read.done next.more m in
       let all = ap weight_of members-are in
@@ -65,7 +73,7 @@ module _ (limit : ℕ) (list : List Spelled) (tile : TilePlace) (later : List Ti
   ten : 10 ≤ length m.units
   ten = ten-units m.units m.told m.spells
 
-  pub ten-room : 10 ≤ limit
+  ten-room : 10 ≤ limit
   ten-room = let few = light.units in let within = light.weight in let many = ten in omega (arith, few, within, many)
 
   -- how many units it has
@@ -94,11 +102,11 @@ module _ (limit : ℕ) (list : List Spelled) (tile : TilePlace) (later : List Ti
     loose-are = loose ∙ (λ i. take (room i) (next.units_are i))
 
     -- with those for which there was no room they spell the member
-    pub front-spelled : record_in (loaded.loose ++ drop spare m.units) ≡ Some m.told
+    front-spelled : record_in (loaded.loose ++ drop spare m.units) ≡ Some m.told
     front-spelled = ap record_in (ap (λ us. us ++ drop spare m.units) loose-are ∙ take-append-drop spare m.units)
         ∙ m.spells
 
-    pub two-loose : 2 ≤ length loaded.loose
+    two-loose : 2 ≤ length loaded.loose
     two-loose =
         let many : length loaded.loose ≡ length (take spare m.units) = ap length loose-are in
         let taken = length-take spare m.units in
@@ -111,11 +119,10 @@ module _ (limit : ℕ) (list : List Spelled) (tile : TilePlace) (later : List Ti
     all-loose enough =
         let same = counted units units-are in loose-are ∙ take-all spare m.units (omega (arith, same, enough))
 
-    pub whole-spelled : units ≤ spare → record_in loaded.loose ≡ Some m.told
+    whole-spelled : units ≤ spare → record_in loaded.loose ≡ Some m.told
     whole-spelled enough = ap record_in (all-loose enough) ∙ m.spells
 
-    -- so no cause is left for which there is no answer
-    pub no-cause : (whole : Bool) → whole ≡ nat_le units spare
+    no-cause : (whole : Bool) → whole ≡ nat_le units spare
         → (length loaded.loose < 2) ⊎ (2 ^ 64 ≤ weight + m.told.head.weight)
         ⊎ ((whole ≡ true) × (record_in loaded.loose ≡ None)) → ⊥
     no-cause whole is (inl short) = let two = two-loose in omega (arith, short, two)
@@ -124,6 +131,13 @@ module _ (limit : ℕ) (list : List Spelled) (tile : TilePlace) (later : List Ti
         let some : ◌≡◌ {A = Option Record} None (Some m.told) =
         sym none ∙ whole-spelled (leb-true units spare (sym is ∙ all)) in
         cc some
+
+    -- so there is an answer
+    pub never-none : (whole : Bool) → whole ≡ nat_le units spare
+        → ((rest : List Unit16) (r : Record) → record_in (loaded.loose ++ rest) ≡ Some r
+        → (length loaded.loose < 2) ⊎ (2 ^ 64 ≤ weight + r.head.weight)
+        ⊎ ((whole ≡ true) × (record_in loaded.loose ≡ None))) → ⊥
+    never-none whole is cause = no-cause whole is (cause (drop spare m.units) m.told front-spelled)
 
     -- It became a record, or was dropped.
     module _ (before after : Desktop) (whole : Bool) (sum : ℕ) (rows : List TileRow)
@@ -134,9 +148,13 @@ module _ (limit : ℕ) (list : List Spelled) (tile : TilePlace) (later : List Ti
         (whole-is : whole ≡ nat_le units spare)
         (close : whole ≡ true → after ≡ closed loaded)
         (same-use : whole ≡ true → used after ≡ used loaded)
-        (sum-is : sum ≡ weight + m.told.head.weight)
+        (sum-told : (rest : List Unit16) (r : Record) → record_in (loaded.loose ++ rest) ≡ Some r
+        → sum ≡ weight + r.head.weight)
         (behind : rows ≡ next_on place left)
       where
+      sum-is : sum ≡ weight + m.told.head.weight
+      sum-is = sum-told (drop spare m.units) m.told front-spelled
+
       -- where all members have room, it does not lack room
       desk-same : sum ≤ limit → desk ≡ before
       desk-same within =
