@@ -124,10 +124,7 @@ fn told_of<P: Spill, L: Ledger>(
         spill,
         steps,
     )?;
-    Ok(Told::Tiles(
-        (first.weight, many),
-        (second.weight, records.len()),
-    ))
+    Ok(Told::Tiles((first.weight, many), (second.weight, records.len())))
 }
 
 // The same, in a store that is started first.
