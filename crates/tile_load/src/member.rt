@@ -45,11 +45,7 @@ pub(crate) fn add_member(records: &mut Records, weight: u64, whole: bool) -> Opt
 {
     let own = weight_in(records.loose())?;
     let sum = weight.checked_add(own)?;
-    if take_loose(records, whole) {
-        Some(sum)
-    } else {
-        None
-    }
+    take_loose(records, whole).then_some(sum)
 }
 
 // Makes the loose units a record, or drops them. Answers whether none is loose.

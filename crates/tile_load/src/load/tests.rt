@@ -21,8 +21,7 @@ use std::sync::ledger::Blank;
 use std::test::Fail;
 use unit_rows::give::put_units;
 
-// What was loaded of two tiles: for each the weight, and the numbers of the first record and of records. How often the
-// store failed.
+// What was loaded of two tiles: for each its weight, and how many records the desk has.
 #[derive(Clone, Copy, Debug, PartialEq, Eq)]
 enum Told {
     Tiles((u64, u32), (u64, u32)),

@@ -1,5 +1,6 @@
-use Rattle.std.proofs.Common.{refl, sym, ap, ◌∙◌, arith}
+use Rattle.std.proofs.Common.{◌≡◌, false, refl, sym, ap, ◌∙◌, arith}
 use Rattle.mf_rows.specs.Desks.{Desktop}
+use Rattle.tile_load.specs.Loading.{holds_row_of}
 use Rattle.tile_load.proofs.Tile.{none-read, all-read}
 use Rattle.tile_load.proofs.load.load_tile.Goals as goal
 
@@ -20,6 +21,7 @@ loop-loaded-init g c = record {
 
 pub returns-clause-loaded : goal.returns-clause-loaded
 returns-clause-loaded g c told list later left =
-    let l = c.loop-loaded in
-    all-read c.args.records.now.capacity list c.args.tile.now later l.loaded l.reader.left l.records
-    l.invariant.capacity (sym c.is_of_tile.ensures ∙ c.loop-loaded-test.false) (l.invariant.read told list later left)
+    let off : holds_row_of c.args.tile.now c.loop-loaded.loaded.next ≡ false =
+    sym c.is_of_tile.ensures ∙ c.loop-loaded-test.false in
+    all-read c.args.records.now.capacity list c.args.tile.now later c.loop-loaded.loaded c.loop-loaded.reader.left
+    c.loop-loaded.records c.loop-loaded.invariant.capacity off (c.loop-loaded.invariant.read told list later left)
