@@ -1,10 +1,10 @@
 -- The next member of a tile: its units are loaded, and it becomes a record or is dropped.
-use Rattle.std.proofs.Common.{◌≡◌, ℕ, ◌+◌, ◌-◌, ◌*◌, ◌≤◌, ◌<◌, ◌^◌, true, false, List, [], ◌∷◌, ◌++◌, length, take, drop}
-use Rattle.std.proofs.Common.{Some, None, refl, sym, ap, subst, ◌∙◌, arith, append_assoc, inl, inr, ◌⊎◌}
+use Rattle.std.proofs.Common.{◌≡◌, ℕ, ◌+◌, ◌-◌, ◌≤◌, ◌<◌, ◌^◌, true, List, [], ◌∷◌, ◌++◌, length, take, drop}
+use Rattle.std.proofs.Common.{Some, None, sym, ap, subst, ◌∙◌, arith, append_assoc, inl, inr, ◌⊎◌}
 use Rattle.std.specs.Prelude.{Bool, map, nat_le, Option}
 use Rattle.std.specs.List.{AllByRecursion}
-use Rattle.std.proofs.lemmas.Bool.{leb-true, le-leb, false≢true}
-use Rattle.std.proofs.lemmas.List.{length-append, length-map, length-take, take-append-drop, map-append}
+use Rattle.std.proofs.lemmas.Bool.{leb-true, le-leb}
+use Rattle.std.proofs.lemmas.List.{length-map, length-take, take-append-drop, map-append}
 use Rattle.mf_base.specs.declared.tile.TilePlace.{TilePlace}
 use Rattle.feature_model.proofs.Rising.{all-after}
 use Rattle.map_model.specs.NumberedMembers.{members_by}
@@ -16,7 +16,7 @@ use Rattle.mf_rows.specs.declared.kinds.TileRow.{TileRow}
 use Rattle.spill_parts.specs.Join.{rest_of}
 use Rattle.spill_parts.specs.Shaped.{Spelled, IsLight}
 use Rattle.tile_rows.specs.TileRows.{shown}
-use Rattle.tile_rows.specs.Reading.{is_row_of, rows_from, BeginsMember}
+use Rattle.tile_rows.specs.Reading.{is_row_of, BeginsMember}
 use Rattle.tile_rows.proofs.RowCount.{members-light}
 use Rattle.tile_rows.proofs.RowReading.{row-begins}
 use Rattle.unit_rows.specs.Runs.{going_on, next_on}

@@ -1,11 +1,10 @@
 -- A tile is read: how it begins and how it ends.
-use Rattle.std.proofs.Common.{◌≡◌, ℕ, ◌≤◌, ◌<◌, Bool, true, false, List, [], ◌∷◌, ◌++◌, length, Option, Some, None}
-use Rattle.std.proofs.Common.{refl, sym, ap, subst, ◌∙◌, arith}
+use Rattle.std.proofs.Common.{◌≡◌, ℕ, Bool, true, false, List, [], ◌∷◌, ◌++◌, Option, Some, None}
+use Rattle.std.proofs.Common.{refl, sym, ap, ◌∙◌, arith}
 use Rattle.std.specs.Prelude.{IsSome}
 use Rattle.std.proofs.lemmas.List.{append-nil}
 use Rattle.mf_base.specs.declared.tile.TilePlace.{TilePlace}
 use Rattle.map_model.specs.NumberedMembers.{members_by}
-use Rattle.mf_edge.specs.Spill.{SpillState}
 use Rattle.mf_rows.specs.Desks.{Desktop, units_in}
 use Rattle.mf_rows.specs.Records.{Record}
 use Rattle.mf_rows.specs.declared.kinds.TileRow.{TileRow}

@@ -1,7 +1,6 @@
 use Rattle.std.proofs.Common.{◌≡◌, ◌∷◌, length, refl, ap, sym, ◌∙◌, arith}
 use Rattle.std.specs.Prelude.{nat_le}
 use Rattle.mf_edge.specs.Spill.{SpillState}
-use Rattle.mf_rows.specs.Desks.{Desktop}
 use Rattle.spill_parts.specs.Join.{rest_of}
 use Rattle.tile_load.proofs.NextMember.{never-none, one-more}
 use Rattle.tile_load.proofs.Tile.{untold}

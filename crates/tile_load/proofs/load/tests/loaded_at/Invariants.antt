@@ -1,0 +1,4 @@
+use Rattle.tile_load.proofs.load.tests.loaded_at.Given as goal
+
+abbrev pub ghosts-told_by : goal.ghosts-told_by
+ghosts-told_by a = record { name = a.blank.name; parts = a.blank.parts }
