@@ -12,8 +12,8 @@ use mf_rows::records::Records;
 // How many units a head has.
 const HEAD_UNITS: u32 = 10;
 
-// Clears the records, where no member is kept beside them: they weigh more than there is room for, or less than a head
-// has room behind them.
+// Clears the records, where the next member passes the room beside them: the members weigh more than there is room for
+// so far, or a head has no room behind them.
 pub(crate) fn make_room(records: &mut Records, room: u32, weight: u64)
     requires room { room ≡ records.old.capacity }
     ensures kept { weight ≤ records.old.capacity → used records.old + 10 ≤ records.old.capacity
