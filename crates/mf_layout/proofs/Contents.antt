@@ -52,7 +52,7 @@ sizes-of tiles =
     ∙ sym (length-flat_map (λ (t : TileContent). t.bytes) tiles)
 
 -- the size of a sub-file: its index, and the bytes of its tiles
-size-is : (tiles : List TileContent) → sub_file_size tiles ≡ 5 * length tiles + length (tile_bytes tiles)
+pub size-is : (tiles : List TileContent) → sub_file_size tiles ≡ 5 * length tiles + length (tile_bytes tiles)
 size-is tiles = size-running tiles ∙ ap (λ (n : ℕ). 5 * length tiles + n) (sizes-of tiles)
 
 -- the index that rows tell is that of the tiles

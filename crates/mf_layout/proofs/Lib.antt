@@ -7,3 +7,6 @@ pub mod Answered
 pub mod Entries
 pub mod SubFilesPut
 pub mod Mapped
+pub mod Walk
+pub mod TwoParts
+pub mod LaidTiles

@@ -1,1 +1,3 @@
 pub mod SubFiles
+pub mod Laid
+pub mod TileWalk
