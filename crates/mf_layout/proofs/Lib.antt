@@ -10,3 +10,9 @@ pub mod Mapped
 pub mod Walk
 pub mod TwoParts
 pub mod LaidTiles
+pub mod LaidOut
+pub mod IntervalTiles
+pub mod MembersStand
+pub mod Shown
+pub mod TileLaid
+pub mod LayingOn

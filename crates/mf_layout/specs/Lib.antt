@@ -1,3 +1,4 @@
 pub mod SubFiles
 pub mod Laid
+pub mod Laying
 pub mod TileWalk

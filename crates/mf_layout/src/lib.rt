@@ -1,8 +1,9 @@
 //! From features to the bytes of the map.
 //!
-//! `tile_walk` gives the tiles of an interval one after another, and `laid` puts a tile behind others. `sub_files` is
-//! what the tiles of all intervals become in the store. `emit` writes the map of them: the header (`head_out`), and for
-//! each interval (`sub_files_out`) its index (`index_out`) and the bytes of its tiles (`tiles_out`).
+//! `interval` lays out the tiles of an interval, which `tile_walk` gives, and `laid` puts one behind another.
+//! `sub_files` is what the tiles of all intervals become in the store. `emit` writes the map of them: the header
+//! (`head_out`), and for each interval (`sub_files_out`) its index (`index_out`) and the bytes of its tiles
+//! (`tiles_out`).
 #![tactic(auto)]
 
 mod buffered;
@@ -10,6 +11,7 @@ pub mod emit;
 pub mod fault;
 mod head_out;
 mod index_out;
+mod interval;
 mod laid;
 pub mod sub_files;
 mod sub_files_out;
