@@ -16,7 +16,7 @@ use Rattle.spill_parts.specs.Shaped.{Spelled, shape_row_of, shape_rows, IsLight,
 use Rattle.mf_layout.specs.Layouts.{layout_size}
 
 -- a feature weighs what the head of its record tells
-weight-told : (s : Spelled) → (feature_told s.told).weight ≡ s.told.head.weight
+pub weight-told : (s : Spelled) → (feature_told s.told).weight ≡ s.told.head.weight
 unfolding feature_told
 weight-told s = refl
 

@@ -1,5 +1,5 @@
 -- What a layout is asked and tells. This project's own.
-use Rattle.std.specs.Prelude.{◌≡◌, ℕ, ◌+◌, max, List, [], ◌∷◌, length, sum_by, None}
+use Rattle.std.specs.Prelude.{◌≡◌, ℕ, ◌+◌, max, List, [], ◌∷◌, map, length, sum_by, None}
 use Rattle.std.specs.List.{AllByRecursion}
 use Rattle.mf_base.specs.declared.place.Rect.{Rect}
 use Rattle.mf_edge.specs.Spill.{SpillState}
@@ -12,7 +12,9 @@ use Rattle.map_model.specs.MapFile.{largest_tile}
 use Rattle.mf_rows.specs.Kinds.{index_kind}
 use Rattle.mf_rows.specs.declared.kinds.ShapeRow.{ShapeRow}
 use Rattle.spill_parts.specs.Parts.{BytePart, Piece, piece_of}
-use Rattle.spill_parts.specs.Shaped.{AreShapes, IsShown}
+use Rattle.mf_rows.specs.declared.kinds.TileRow.{TileRow}
+use Rattle.spill_parts.specs.Shaped.{Spelled, IsLight, AreShapes, IsShown}
+use Rattle.tile_rows.specs.TileRows.{all_tile_rows, AreNumbered}
 use Rattle.mf_layout.specs.SubFiles.{HoldTiles}
 use Rattle.mf_layout.specs.declared.sub_files.SubFiles.{SubFiles}
 
@@ -21,6 +23,15 @@ pub record AreFeatures (limit : ℕ) (mapping : Mapping) (list : List Feature) (
   pub mapping_is : IsMapping mapping
   pub shapes : AreShapes limit list rows
   pub shown : AllByRecursion (IsShown mapping) list
+
+-- The rows of all tiles of these records, of units that spell them.
+pub record AreInOrder (limit : ℕ) (set : HeadSettings) (box : Rect) (list : List Spelled) (rows : List TileRow)
+    : Type 0 where
+  pub made : List Spelled
+  pub told : map (λ (s : Spelled). s.told) made ≡ map (λ (s : Spelled). s.told) list
+  pub light : AllByRecursion (IsLight limit) made
+  pub numbered : AreNumbered made
+  pub rows_are : rows ≡ all_tile_rows set box made
 
 -- Nothing passes its limit, and the parts hold the sub-files of these features.
 pub record IsLayoutOf (limit : ℕ) (set : HeadSettings) (box : Rect) (list : List Feature) (largest : ℕ)
