@@ -4,12 +4,10 @@ use Rattle.std.proofs.Common.{refl, sym, ap, ◌∙◌, arith, append_assoc, len
 use Rattle.std.specs.Prelude.{cond, fold, max}
 use Rattle.std.proofs.lemmas.List.{append-nil, map-append, length-map}
 use Rattle.std.proofs.lemmas.List.Sums.{sum_by-append, fold-append, count_by-le-length}
-use Rattle.std.proofs.lemmas.Grind.{flat_map-append}
 use Rattle.mf_base.specs.declared.place.Rect.{Rect}
 use Rattle.mf_base.specs.declared.tile.Interval.{Interval}
 use Rattle.mf_edge.specs.Spill.{SpillState}
 use Rattle.map_model.specs.Intervals.{interval_tiles}
-use Rattle.map_model.specs.SubFile.{TileContent}
 use Rattle.mf_rows.specs.declared.kinds.IndexRow.{IndexRow}
 use Rattle.mf_rows.specs.declared.kinds.TileRow.{TileRow}
 use Rattle.tile_rows.specs.TileRows.{shown}
@@ -18,19 +16,10 @@ use Rattle.mf_layout.specs.Laying.{LaysOut}
 use Rattle.mf_layout.specs.AllLaid.{tiles_from, flat, size_of_tiles, IsShort, AreAllLaid, LayAll}
 use Rattle.mf_layout.specs.declared.laid.Laid.{Laid}
 use Rattle.mf_layout.specs.declared.sub_files.SubFileSize.{SubFileSize}
+use Rattle.mf_layout.proofs.LaidTiles.{bytes-append}
 use Rattle.mf_layout.proofs.LaidOut.{fault-behind}
+use Rattle.mf_layout.proofs.LayingOn.{no_size}
 use Rattle.mf_layout.proofs.FirstInterval.{first-done}
-
--- a sub-file without tiles
-abbrev empty : SubFileSize
-empty = record { tiles = 0; bytes = 0 }
-
--- the bytes of tiles and of others behind them
-pub bytes-behind : (xs ys : List Tile)
-    → bytes_of (map content (xs ++ ys)) ≡ bytes_of (map content xs) ++ bytes_of (map content ys)
-bytes-behind xs ys =
-    ap bytes_of (map-append content xs ys)
-    ∙ flat_map-append (λ (t : TileContent). t.bytes) (map content xs) (map content ys)
 
 -- ---- what is laid out
 
@@ -47,11 +36,11 @@ all_laid-none l a = record {
 
 -- a first sub-file, and others behind it
 all_laid-then : (tiles : List Tile) (all : List (List Tile)) (size : SubFileSize) (l l1 l2 : Laid)
-    (a b c : SpillState) → AreLaid tiles empty size l l1 a b → l1.tiles.part ≡ l.tiles.part → c.tells ≡ b.tells
+    (a b c : SpillState) → AreLaid tiles no_size size l l1 a b → l1.tiles.part ≡ l.tiles.part → c.tells ≡ b.tells
     → AreAllLaid all l1 l2 b c → AreAllLaid (tiles ∷ all) l l2 a c
 all_laid-then tiles all size l l1 l2 a b c first part tells then =
     let less : IsShort tiles → size.bytes < 2 ^ 39 = λ (short : IsShort tiles). omega (arith, short, first.bytes_are) in
-    let bytes = bytes-behind tiles (flat all) in
+    let bytes = bytes-append tiles (flat all) in
     record {
       shown_are = omega (
         arith,
@@ -103,7 +92,7 @@ lay_all-none limit box index left sizes l a = record {
 
 -- the size of a sub-file is that of its tiles
 size-counted : (tiles : List Tile) (size : SubFileSize) (l l1 : Laid) (a b : SpillState)
-    → AreLaid tiles empty size l l1 a b → size ≡ size_of_tiles tiles
+    → AreLaid tiles no_size size l l1 a b → size ≡ size_of_tiles tiles
 size-counted tiles size l l1 a b laid =
     let many : size.tiles ≡ (size_of_tiles tiles).tiles = omega (arith, laid.tiles_are, length-map tiles content)
     in
@@ -114,7 +103,7 @@ size-counted tiles size l l1 a b laid =
 pub lay_all-then : (limit : ℕ) (box : Rect) (index : ℕ) (interval : Interval) (intervals : List Interval)
     (left left1 left2 : List TileRow) (size : SubFileSize) (sizes sizes2 : List SubFileSize) (l l1 l2 : Laid)
     (a b c : SpillState) → l1.tiles.part ≡ l.tiles.part → b.tells ≡ a.tells → c.tells ≡ b.tells
-    → LaysOut limit (interval_tiles box index interval) left left1 empty size l l1 a b
+    → LaysOut limit (interval_tiles box index interval) left left1 no_size size l l1 a b
     → LayAll limit box (index + 1) intervals left1 left2 (sizes ++ size ∷ []) sizes2 l1 l2 b c
     → LayAll limit box index (interval ∷ intervals) left left2 sizes sizes2 l l2 a c
 lay_all-then limit box index interval intervals left left1 left2 size sizes sizes2 l l1 l2 a b c part tells tells_then
@@ -127,7 +116,7 @@ lay_all-then limit box index interval intervals left left1 left2 size sizes size
           ∙ ap (λ (s : SubFileSize). sizes ++ s ∷ map size_of_tiles then.all) counted;
       laid_are = all_laid-then first.done then.all size l l1 l2 a b c first.laid_are part tells_then then.laid_are;
       told = λ told list later to_lay.
-          let before = first-done limit box index interval intervals left left1 empty size l l1 a b told first list later
+          let before = first-done limit box index interval intervals left left1 no_size size l l1 a b told first list later
           to_lay in
           let now = then.told (tells ∙ told) list later before.to_lay in
           record {
@@ -152,7 +141,7 @@ room-less m n l less room = record {
 
 -- behind a sub-file there is room for what remains
 pub room-behind : (n : ℕ) (tiles : List Tile) (size : SubFileSize) (l l1 : Laid) (a b : SpillState)
-    → AreLaid tiles empty size l l1 a b → length tiles ≤ 2 ^ 32 → HasRoom (2 ^ 39 + n) l
+    → AreLaid tiles no_size size l l1 a b → length tiles ≤ 2 ^ 32 → HasRoom (2 ^ 39 + n) l
     → HasRoom n l1
 room-behind n tiles size l l1 a b laid few room =
     let shows = count_by-le-length is_shown tiles in

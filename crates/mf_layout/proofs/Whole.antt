@@ -25,8 +25,7 @@ use Rattle.mf_layout.specs.declared.laid.Laid.{Laid}
 use Rattle.mf_layout.specs.declared.sub_files.SubFileSize.{SubFileSize}
 use Rattle.mf_layout.specs.declared.sub_files.SubFiles.{SubFiles}
 use Rattle.mf_layout.proofs.Contents.{size-is}
-use Rattle.mf_layout.proofs.LaidTiles.{rows-told}
-use Rattle.mf_layout.proofs.AllLaid.{bytes-behind}
+use Rattle.mf_layout.proofs.LaidTiles.{bytes-append, rows-told}
 use Rattle.mf_layout.proofs.AllDone.{tiles-all, contents-map, shown-map, water-map, largest-map}
 use Rattle.mf_layout.proofs.AllDone.{layout-sub_file, sizes-map, all-short}
 
@@ -43,7 +42,7 @@ bytes-in : (all : List (List Tile))
     → bytes_in (map size_of_tiles all) ≡ 5 * length (flat all) + length (bytes_of (map content (flat all)))
 bytes-in [] = refl
 bytes-in (tiles ∷ all) =
-    let bytes = ap length (bytes-behind tiles (flat all))
+    let bytes = ap length (bytes-append tiles (flat all))
     ∙ length-append (bytes_of (map content tiles)) (bytes_of (map content (flat all))) in
     let many = length-append tiles (flat all) in
     omega (arith, bytes-in all, size-is (map content tiles), length-map tiles content, bytes, many)
@@ -96,7 +95,7 @@ bytes-flat : (all : List (List Tile))
     → bytes_of (map content (flat all)) ≡ flat_map (flat_map (λ (t : TileContent). t.bytes)) (map (map content) all)
 bytes-flat [] = refl
 bytes-flat (tiles ∷ all) =
-    bytes-behind tiles (flat all) ∙ ap (λ bs. bytes_of (map content tiles) ++ bs) (bytes-flat all)
+    bytes-append tiles (flat all) ∙ ap (λ bs. bytes_of (map content tiles) ++ bs) (bytes-flat all)
 
 pub hold-tiles : (all : List (List Tile)) (subs : SubFiles) (s : SpillState)
     → subs.sizes.items ≡ map size_of_tiles all → subs.index.rows ≡ map index_row_of (flat all)
