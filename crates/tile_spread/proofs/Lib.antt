@@ -1,3 +1,10 @@
 pub mod FromTo
 pub mod Putting
 pub mod Shared
+pub mod Flat
+pub mod HeadRows
+pub mod RowCounts
+pub mod Intervals
+pub mod MadeOne
+pub mod Loading
+pub mod SoFar
