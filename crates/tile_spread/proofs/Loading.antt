@@ -23,8 +23,8 @@ unit r = r.unit
 
 -- what is not so
 pub untold : (b : Bool) → (b ≡ true → ⊥) → b ≡ false
-untold true no = absurd (no refl)
-untold false no = refl
+untold true never = absurd (never refl)
+untold false never = refl
 
 length-map : {X Y : Type 0} (f : X → Y) (xs : List X) → length (map f xs) ≡ length xs
 length-map f [] = refl
@@ -33,14 +33,14 @@ length-map f (x ∷ xs) = ap suc (length-map f xs)
 module _ (limit : ℕ) (list : List Spelled) (first : ShapeRow) (left : List ShapeRow)
     (light : AllByRecursion (IsLight limit) list) (is : first ∷ left ≡ flat_map shape_rows list)
   where
-    begins : BeginsFeature list first left
+    abbrev begins : BeginsFeature list first left
     begins = feature-begins list first left is
 
     its_light : IsLight limit begins.feature
     its_light = (subst (AllByRecursion (IsLight limit)) begins.list_is light).0
 
     counted : 1 + length (going_on place left) ≡ length begins.feature.units
-    counted = ap suc (sym (length-map unit (going_on place left))) ∙ ap length begins.units_are
+    counted = omega (arith, length-map unit (going_on place left), ap length begins.units_are)
 
     -- there is room for all its units
     pub fits : (units : ℕ) → units ≡ 1 + length (going_on place left) → units ≤ limit

@@ -102,7 +102,7 @@ module _ (limit : ℕ) (intervals : List Interval) (box : Rect) (list : List Spe
         (subst (AllByRecursion (IsLight limit)) (sym was.whole) may.light)
 
     module _ (rest_now : List ShapeRow) (d : Desktop) (loaded : IsLoaded was.left rest_now d) where
-      feature : Spelled
+      abbrev feature : Spelled
       feature = loaded.feature
 
       whole : was.done ++ feature ∷ loaded.more ≡ list

@@ -6,16 +6,16 @@ use Rattle.tile_spread.proofs.spread.put_next.Goals as goal
 pub load_feature-requires-clause-found : goal.load_feature-requires-clause-found
 load_feature-requires-clause-found g c told =
     let found = c.requires.found told in
-    (found.1.1.left, light-left _ _ _ found.0 _ _ _ found.1.0 found.1.1, found.1.1.rest_is)
+    (found.2.left, light-left _ _ _ found.0 _ _ _ found.1 found.2, found.2.rest_is)
 
 pub put_feature-requires-clause-feature : goal.put_feature-requires-clause-feature
 put_feature-requires-clause-feature g c told r is =
     let told_before : (g.P.Spill.state c.args.spill.now).tells ≡ true =
     sym (ap (λ (s : SpillState). s.tells) c.in_ok-next.ensures.same) ∙ told in
     let found = c.requires.found told_before in
-    let light = light-left _ _ _ found.0 _ _ _ found.1.0 found.1.1 in
-    let loaded = c.in_ok-next.ensures.told told_before found.1.1.left light found.1.1.rest_is in
-    may-be-put _ _ _ found.0 _ _ _ found.1.0 found.1.1 _ _ loaded r is
+    let light = light-left _ _ _ found.0 _ _ _ found.1 found.2 in
+    let loaded = c.in_ok-next.ensures.told told_before found.2.left light found.2.rest_is in
+    may-be-put _ _ _ found.0 _ _ _ found.1 found.2 _ _ loaded r is
 
 pub returns-clause-so_far : goal.returns-clause-so_far
 returns-clause-so_far g c told list may was =

@@ -7,8 +7,8 @@ use Rattle.spill_parts.specs.Shaped.{Spelled}
 use Rattle.tile_spread.specs.Pass.{MaySpread, AreSoFar, all_spread}
 use Rattle.tile_spread.proofs.spread.spread.Given as goal
 
-abbrev pub invariant-loop-reader : goal.invariant-loop-reader
-invariant-loop-reader g l = record {
+abbrev pub invariant-loop-grid : goal.invariant-loop-grid
+invariant-loop-grid g l = record {
   only : TouchesOnly l.fn.out.part (g.P.Spill.state l.fn.spill) (g.P.Spill.state l.spill);
   same_faults : (g.P.Spill.state l.spill).faults ≡ (g.P.Spill.state l.fn.spill).faults;
   held : IsHeld tile_kind l.out (g.P.Spill.state l.spill);
@@ -29,5 +29,5 @@ invariant-loop-reader g l = record {
   room : l.page.room ≡ l.fn.page.room;
 }
 
-abbrev pub decreases-loop-reader : goal.decreases-loop-reader
-decreases-loop-reader g l = length (rest_of l.held l.reader.left)
+abbrev pub decreases-loop-grid : goal.decreases-loop-grid
+decreases-loop-grid g l = length (rest_of l.held l.reader.left)
