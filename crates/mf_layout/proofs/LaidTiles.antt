@@ -24,7 +24,7 @@ unfolding content_of
 content-bytes place members = refl
 
 -- the bytes of tiles and of others behind them
-bytes-append : (xs ys : List Tile)
+pub bytes-append : (xs ys : List Tile)
     → bytes_of (map content (xs ++ ys)) ≡ bytes_of (map content xs) ++ bytes_of (map content ys)
 bytes-append xs ys =
     ap bytes_of (map-append content xs ys)

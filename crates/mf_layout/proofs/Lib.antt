@@ -16,3 +16,12 @@ pub mod MembersStand
 pub mod Shown
 pub mod TileLaid
 pub mod LayingOn
+pub mod FirstInterval
+pub mod AllLaid
+pub mod AllDone
+pub mod Whole
+pub mod LayoutSize
+pub mod ToLay
+pub mod OthersRoom
+pub mod ThreeParts
+pub mod RowsLaid

@@ -9,10 +9,13 @@
 mod buffered;
 pub mod emit;
 pub mod fault;
+mod full;
 mod head_out;
 mod index_out;
 mod interval;
+mod intervals;
 mod laid;
+mod ordered;
 pub mod sub_files;
 mod sub_files_out;
 mod tile_walk;
