@@ -1,7 +1,7 @@
 -- The rows of a layout are few, by its size.
-use Rattle.std.proofs.Common.{◌≡◌, ℕ, ◌+◌, ◌*◌, ◌≤◌, List, [], ◌∷◌, map, length, refl, ap, ◌∙◌, arith}
+use Rattle.std.proofs.Common.{◌≡◌, ℕ, ◌+◌, ◌*◌, ◌<◌, ◌≤◌, List, [], ◌∷◌, map, length, refl, ap, ◌∙◌, arith}
 use Rattle.std.proofs.Common.{length-append}
-use Rattle.std.specs.Prelude.{flat_map, sum_by}
+use Rattle.std.specs.Prelude.{flat_map, sum_by, slice_index_or}
 use Rattle.std.specs.List.{enumerate_from, AllByRecursion}
 use Rattle.std.proofs.lemmas.List.{length-map}
 use Rattle.std.proofs.lemmas.List.FromFn.{length-enumerate_from}
@@ -11,6 +11,7 @@ use Rattle.feature_model.specs.Features.{Feature}
 use Rattle.map_model.specs.Header.{HeadSettings}
 use Rattle.map_model.specs.MapFile.{all_tiles, tile_weight}
 use Rattle.mf_rows.specs.Shapes.{feature_told}
+use Rattle.mf_rows.specs.declared.desk.Desk.{Desk}
 use Rattle.mf_rows.specs.declared.kinds.ShapeRow.{ShapeRow}
 use Rattle.spill_parts.specs.Shaped.{Spelled, shape_row_of, shape_rows, IsLight, AreShapes}
 use Rattle.mf_layout.specs.Layouts.{layout_size}
@@ -46,3 +47,10 @@ pub rows-few : (limit : ℕ) (set : HeadSettings) (box : Rect) (list : List Feat
     → 28 * length rows + 39 * n ≤ 39 * layout_size set box list
 unfolding layout_size
 rows-few limit set box list rows n are few = omega (arith, few, shapes-weigh limit list rows are)
+
+-- the first of the desks has room for as many rows as each
+pub first-room : (desks : List Desk) (room : ℕ) (d : Desk) → 0 < length desks
+    → AllByRecursion (λ (one : Desk). one.records.capacity ≡ room) desks
+    → (slice_index_or desks 0 d).records.capacity ≡ room
+first-room [] room d some all = absurd (omega (arith, some))
+first-room (first ∷ others) room d some all = all.0

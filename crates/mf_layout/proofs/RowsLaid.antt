@@ -1,6 +1,6 @@
 -- The rows of all tiles: from the first on, and none behind the last.
-use Rattle.std.proofs.Common.{◌≡◌, ◌≤◌, ◌<◌, ℕ, List, [], ◌∷◌, ◌++◌, length, true, None, Some, IsTrue, refl, sym, ap, ◌∙◌, subst, arith}
-use Rattle.std.specs.Prelude.{nat_le, ◌&&◌, ◌==◌, suc, zip, drop, map, Option}
+use Rattle.std.proofs.Common.{◌≡◌, ℕ, List, [], ◌∷◌, ◌++◌, length, true, None, Some, IsTrue, refl, sym, ◌∙◌, subst}
+use Rattle.std.specs.Prelude.{nat_le, ◌&&◌, ◌==◌, suc, zip, drop, Option}
 use Rattle.std.specs.List.{AllByRecursion, list_all}
 use Rattle.std.proofs.Common.{rules}
 use Rattle.std.specs.Prelude.{Result, Ok, Err, IfOk, OnOk}
@@ -18,7 +18,7 @@ use Rattle.map_model.specs.MapFile.{all_tiles}
 use Rattle.mf_rows.specs.declared.kinds.TileRow.{TileRow}
 use Rattle.spill_parts.specs.Join.{rest_of}
 use Rattle.spill_parts.specs.Shaped.{Spelled}
-use Rattle.tile_rows.specs.TileRows.{shown, rows_of_tiles}
+use Rattle.tile_rows.specs.TileRows.{rows_of_tiles}
 use Rattle.mf_layout.specs.AllLaid.{LayAll, tiles_from}
 use Rattle.mf_layout.specs.Laying.{AreToLay, tiles_fault}
 use Rattle.mf_layout.specs.declared.laid.Laid.{Laid}

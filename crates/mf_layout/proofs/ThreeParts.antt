@@ -1,7 +1,7 @@
 -- The store has the rows of members and the two parts that tiles are put to, and in the end these two alone.
-use Rattle.std.proofs.Common.{◌≡◌, ◌≢◌, ℕ, ◌+◌, List, [], ◌∷◌, ◌++◌, length, true, Some, refl, sym, ap, ◌∙◌, subst, arith}
+use Rattle.std.proofs.Common.{◌≡◌, ◌≢◌, ℕ, ◌+◌, List, [], ◌∷◌, ◌++◌, length, Some, refl, sym, ap, ◌∙◌, subst}
 use Rattle.std.specs.List.{AllByRecursion}
-use Rattle.std.proofs.lemmas.List.{length-append, append_assoc}
+use Rattle.std.proofs.lemmas.List.{length-append}
 use Rattle.mf_edge.specs.Spill.{SpillState, SameStore, IsMade, IsForgotten}
 use Rattle.mf_rows.specs.Kinds.{index_kind}
 use Rattle.mf_rows.specs.declared.kinds.IndexRow.{IndexRow}

@@ -15,6 +15,8 @@ mod index_out;
 mod interval;
 mod intervals;
 mod laid;
+pub mod layout;
+mod member_rows;
 mod ordered;
 pub mod sub_files;
 mod sub_files_out;

@@ -1,4 +1,4 @@
-use Rattle.std.proofs.Common.{◌≡◌, ◌∷◌, [], ◌++◌, ◌+◌, List, true, map, Some, Err, subst, sym, ap, ◌∙◌, arith}
+use Rattle.std.proofs.Common.{◌≡◌, ◌++◌, ◌+◌, List, map, Some, Err, subst, sym, ap, ◌∙◌, arith}
 use Rattle.std.proofs.Common.{length, IsTrue, ℕ}
 use Rattle.std.proofs.lemmas.List.{nil_from_length}
 use Rattle.std.specs.List.{AllByRecursion}
@@ -6,7 +6,6 @@ use Rattle.std.specs.Result.{IsErrAnd}
 use Rattle.map_model.specs.Intervals.{is_zoom_range}
 use Rattle.spill_parts.specs.Parts.{Part}
 use Rattle.mf_base.specs.declared.tile.Interval.{Interval}
-use Rattle.mf_base.specs.declared.tile.TilePlace.{TilePlace}
 use Rattle.mf_rows.specs.declared.kinds.TileRow.{TileRow}
 use Rattle.spill_parts.specs.Join.{rest_of}
 use Rattle.tile_rows.specs.TileRows.{shown}

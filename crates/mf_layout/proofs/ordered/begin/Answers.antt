@@ -1,4 +1,4 @@
-use Rattle.std.proofs.Common.{◌≡◌, ◌∷◌, [], ◌++◌, subst, sym}
+use Rattle.std.proofs.Common.{◌∷◌, [], ◌++◌, subst}
 use Rattle.std.proofs.lemmas.List.{append_assoc}
 use Rattle.mf_rows.specs.Kinds.{index_kind}
 use Rattle.spill_parts.specs.Parts.{HasJust, piece_of}

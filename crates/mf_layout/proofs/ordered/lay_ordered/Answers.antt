@@ -1,17 +1,16 @@
-use Rattle.std.proofs.Common.{◌≡◌, ◌∷◌, [], ◌++◌, List, true, map, Some, Err, subst, sym, ap, ◌∙◌}
+use Rattle.std.proofs.Common.{◌≡◌, ◌∷◌, [], map, Err, subst, sym, ap, ◌∙◌}
 use Rattle.std.specs.Result.{IsErrAnd}
 use Rattle.map_header.specs.Shown.{settings_of}
-use Rattle.mf_rows.specs.Kinds.{index_kind, tile_kind}
+use Rattle.mf_rows.specs.Kinds.{tile_kind}
 use Rattle.spill_parts.specs.Parts.{HasJust, piece_of}
 use Rattle.tile_rows.specs.TileRows.{shown}
-use Rattle.mf_layout.specs.Layouts.{IsLayoutOf, sub_pieces}
-use Rattle.mf_layout.specs.SubFiles.{AreSubFiles}
+use Rattle.mf_layout.specs.Layouts.{sub_pieces}
 use Rattle.mf_layout.specs.declared.fault.LayoutFault.{LayoutFault}
 use Rattle.mf_layout.specs.declared.sub_files.SubFiles.{SubFiles}
 use Rattle.mf_layout.proofs.AllDone.{layout-tile}
 use Rattle.mf_layout.proofs.RowsLaid.{ok-map, ok-both, tiles-from}
-use Rattle.mf_layout.proofs.ThreeParts.{two_pieces, just-touched, just-last}
-use Rattle.mf_layout.proofs.Whole.{AreOf, whole-sub_files, whole-fault, whole-layout}
+use Rattle.mf_layout.proofs.ThreeParts.{just-touched, just-last}
+use Rattle.mf_layout.proofs.Whole.{whole-sub_files, whole-fault, whole-layout}
 use Rattle.mf_layout.proofs.ordered.lay_ordered.Goals as goal
 
 pub lay_rows-requires-clause-ordered : goal.lay_rows-requires-clause-ordered
