@@ -12,7 +12,6 @@ use Rattle.map_model.specs.TileRects.{common, tile_rect, from_to}
 use Rattle.map_model.specs.Intervals.{tile_place}
 use Rattle.mf_rows.specs.Records.{candidate_told}
 use Rattle.mf_rows.specs.Shapes.{feature_told}
-use Rattle.mf_rows.specs.declared.kinds.TileRow.{TileRow}
 use Rattle.spill_parts.specs.Shaped.{Spelled}
 use Rattle.tile_rows.specs.TileRows.{shown, member_rows, interval_rows}
 use Rattle.tile_rows.proofs.PutSteps.{put-above, put-none, put-shared}

@@ -1,12 +1,11 @@
 -- A feature is put in one interval after another.
 use Rattle.std.proofs.Common.{◌≡◌, ℕ, zero, suc, ◌+◌, ◌≤◌, ◌<◌, List, [], ◌∷◌, ◌++◌, length, drop, get_or}
-use Rattle.std.proofs.Common.{refl, sym, ap, subst, ◌∙◌, arith, true}
-use Rattle.std.specs.Prelude.{flat_map, IsTrue, leb, ◌&&◌, ◌==◌, zip}
+use Rattle.std.proofs.Common.{refl, sym, ap, subst, ◌∙◌, arith}
+use Rattle.std.specs.Prelude.{IsTrue, leb, ◌&&◌, ◌==◌, zip}
 use Rattle.std.specs.List.{list_all}
 use Rattle.std.proofs.lemmas.Bool.{leb-true, and_parts}
 use Rattle.map_model.specs.Intervals.{is_zoom_range, are_intervals}
 use Rattle.std.proofs.lemmas.List.{append-nil}
-use Rattle.std.specs.List.{enumerate_from}
 use Rattle.mf_base.specs.declared.place.Rect.{Rect}
 use Rattle.mf_base.specs.declared.tile.Interval.{Interval}
 use Rattle.mf_edge.specs.Spill.{SpillState}

@@ -1,6 +1,6 @@
 -- A feature is loaded: all its units are loose, and they spell its record.
-use Rattle.std.proofs.Common.{◌≡◌, ℕ, suc, ◌+◌, ◌-◌, ◌≤◌, Bool, true, false, List, [], ◌∷◌, ◌++◌, length, Some}
-use Rattle.std.proofs.Common.{refl, sym, ap, subst, ◌∙◌, arith}
+use Rattle.std.proofs.Common.{◌≡◌, ℕ, suc, ◌+◌, ◌≤◌, Bool, true, false, List, [], ◌∷◌, ◌++◌, length, Some}
+use Rattle.std.proofs.Common.{refl, ap, subst, ◌∙◌, arith}
 use Rattle.std.specs.Prelude.{map, flat_map, take, slice_get, is_some}
 use Rattle.std.specs.List.{AllByRecursion}
 use Rattle.mf_rows.specs.Units.{Unit16}

@@ -1,5 +1,5 @@
 -- Other units that spell a record make as many rows, and each is one.
-use Rattle.std.proofs.Common.{◌≡◌, ℕ, ◌+◌, Bool, true, false, List, [], ◌∷◌, ◌++◌, length, refl, sym, ap, subst, ◌∙◌, arith}
+use Rattle.std.proofs.Common.{◌≡◌, ℕ, ◌+◌, Bool, true, false, List, [], ◌∷◌, length, refl, sym, ap, subst, ◌∙◌, arith}
 use Rattle.std.specs.Prelude.{flat_map, map, nat_le, cond, if◌then◌else◌}
 use Rattle.std.specs.List.{enumerate_from, AllByRecursion}
 use Rattle.std.proofs.lemmas.List.{length-append}
@@ -14,7 +14,6 @@ use Rattle.mf_rows.specs.RowKinds.{IsOf}
 use Rattle.mf_rows.specs.Shapes.{feature_told}
 use Rattle.mf_rows.specs.Records.{Record}
 use Rattle.mf_rows.specs.Units.{Unit16}
-use Rattle.mf_rows.specs.declared.kinds.TileRow.{TileRow}
 use Rattle.spill_parts.specs.Shaped.{Spelled, shape_row_of}
 use Rattle.unit_rows.proofs.RunsOf.{rows-counted}
 use Rattle.tile_rows.specs.TileRows.{shown, unit_row, member_rows, interval_rows, HasRows}

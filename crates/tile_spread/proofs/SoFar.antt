@@ -1,7 +1,7 @@
 -- One feature more: what was put so far, and what is left.
 use Rattle.std.proofs.Common.{◌≡◌, ℕ, ◌+◌, ◌*◌, ◌≤◌, ◌<◌, false, List, [], ◌∷◌, ◌++◌, length, Option, Some, None}
 use Rattle.std.proofs.Common.{refl, sym, ap, subst, ◌∙◌, arith, append_assoc}
-use Rattle.std.specs.Prelude.{map, flat_map, is_some, slice_get}
+use Rattle.std.specs.Prelude.{map, is_some, slice_get}
 use Rattle.std.specs.List.{AllByRecursion}
 use Rattle.std.proofs.lemmas.Grind.{flat_map-append}
 use Rattle.std.proofs.lemmas.List.{append-nil, length-append, map-append}
@@ -17,7 +17,7 @@ use Rattle.mf_rows.specs.Shapes.{IsFeature}
 use Rattle.mf_rows.specs.declared.kinds.ShapeRow.{ShapeRow}
 use Rattle.mf_rows.specs.declared.kinds.TileRow.{TileRow}
 use Rattle.spill_parts.specs.Join.{rest_of}
-use Rattle.spill_parts.specs.Shaped.{Spelled, shape_rows, IsLight}
+use Rattle.spill_parts.specs.Shaped.{Spelled, IsLight}
 use Rattle.tile_rows.specs.TileRows.{put_rows, feature_rows, NumberBelow, HasRows}
 use Rattle.tile_rows.proofs.RowReading.{features-end}
 use Rattle.tile_spread.specs.Pass.{IsOnEarth, MaySpread, AreSpread, spread_of, all_spread, IsLoaded, IsOneMore, AreSoFar}

@@ -1,4 +1,4 @@
-use Rattle.std.proofs.Common.{◌≡◌, ◌++◌, length, true, sym, ap, ◌∙◌, arith}
+use Rattle.std.proofs.Common.{arith}
 use Rattle.std.proofs.lemmas.Result.{on_ok_weaker}
 use Rattle.tile_spread.proofs.MadeOne.{few-units, one-more, as-long}
 use Rattle.tile_spread.proofs.feature.put_feature.Goals as goal

@@ -1,6 +1,6 @@
 use Rattle.std.proofs.Common.{◌∙◌, arith}
-use Rattle.tile_spread.proofs.Intervals.{split-heads, heads-all, base-small}
-use Rattle.tile_spread.proofs.Putting.{putting-first, putting-split, putting-next, room-then, only-then}
+use Rattle.tile_spread.proofs.Intervals.{split-heads, heads-all}
+use Rattle.tile_spread.proofs.Putting.{putting-first, putting-next, room-then, only-then}
 use Rattle.tile_spread.proofs.Putting.{failed-then, on-err}
 use Rattle.tile_spread.proofs.feature.put_intervals.Goals as goal
 

@@ -1,0 +1,3 @@
+pub mod Rooms
+pub mod Boxes
+pub mod Gathered

@@ -1,0 +1,10 @@
+//! An input becomes a map, or the first of its faults is told.
+//!
+//! `job` has all the memory of a run, and `fault` why there is no map. `gather` reads the input into the parts that the
+//! later passes read, and knows its box. `laws` tells how many rows a job can hold at one time.
+#![tactic(auto)]
+
+pub mod fault;
+mod gather;
+pub mod job;
+pub mod laws;
