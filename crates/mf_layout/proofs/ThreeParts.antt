@@ -79,5 +79,8 @@ pub just-last : (first : Piece) (index : Part IndexRow) (tiles : BytePart) (s t 
     → HasJust (two_pieces t index tiles) t
 just-last first index tiles s t gone same just =
     let less = just-less (two_pieces s index tiles) first gone same [] just in
-    subst (λ (bytes : List ℕ). HasJust (piece_of index_kind index ∷ record { part = tiles.part; size = tiles.size;
-    bytes = bytes } ∷ []) t) (sym (gone.others.bytes tiles.part just.differ.0.1.0)) less
+    subst (λ (bytes : List ℕ). HasJust (piece_of index_kind index ∷ record {
+      part = tiles.part;
+      size = tiles.size;
+      bytes = bytes;
+    } ∷ []) t) (sym (gone.others.bytes tiles.part just.differ.0.1.0)) less

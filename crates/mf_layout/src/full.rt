@@ -6,11 +6,9 @@ ghost use Rattle.feature_model.specs.declared.fault.LimitFault.{LimitFault as Fa
 ghost use Rattle.map_model.specs.MapFile.{sub_file_limit_fault};
 ghost use Rattle.mf_layout.specs.declared.sub_files.SubFileSize.{SubFileSize as Size};
 
+use crate::laid::SUB_FILE_LIMIT;
 use crate::sub_files::SubFileSize;
 use mf_rows::LimitFault;
-
-/// A sub-file has fewer bytes: the offset of a tile has 39 bits.
-pub(crate) const SUB_FILE_LIMIT: u64 = 1 << 39;
 
 /// The first sub-file that has so many bytes or more, as a fault.
 #[tactic(auto, unfolding(map_model::specs::MapFile::sub_file_limit_fault))]

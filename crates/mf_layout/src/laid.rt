@@ -22,7 +22,7 @@ use tile_body::encode::encode;
 use tile_index::water::is_water;
 
 // A sub-file has fewer bytes.
-const SUB_FILE_LIMIT: u64 = 1 << 39;
+pub(crate) const SUB_FILE_LIMIT: u64 = 1 << 39;
 
 /// The tiles that were laid out so far: a part with a row for each, and one with their bytes.
 ///

@@ -1,6 +1,9 @@
 //! From features to the bytes of the map.
 //!
-//! `interval` lays out the tiles of an interval, which `tile_walk` gives, and `laid` puts one behind another.
+//! `layout` makes the features of a part the tiles of the sub-files. `member_rows` puts their rows in the order of the
+//! tiles, and `ordered` makes these sub-files: `intervals` goes from interval to interval, `interval` over the tiles of
+//! one, which `tile_walk` gives, and `laid` puts one tile behind another; `full` finds a sub-file that is too long.
+//!
 //! `sub_files` is what the tiles of all intervals become in the store. `emit` writes the map of them: the header
 //! (`head_out`), and for each interval (`sub_files_out`) its index (`index_out`) and the bytes of its tiles
 //! (`tiles_out`).

@@ -189,12 +189,12 @@ fn sub_files_of(sizes: ArrayVec<SubFileSize, 8>, laid: Laid) -> Result<SubFiles,
     ensures other { result ≢ Err LayoutFault.Spill }
     ensures none { OnOk result (sub_file_limit_fault (map (λ (s : Size). s.bytes) sizes.items) ≡ None) }
     ensures sub_files { IfOk result (λ subs. subs ≡ record {
-        sizes = sizes;
-        index = laid.index;
-        tiles = laid.tiles;
-        shown = laid.shown;
-        water = laid.water;
-        largest = laid.largest;
+      sizes = sizes;
+      index = laid.index;
+      tiles = laid.tiles;
+      shown = laid.shown;
+      water = laid.water;
+      largest = laid.largest;
     }) }
 {
     if let Some(fault) = first_too_long(&sizes) {

@@ -45,43 +45,69 @@ lay_intervals-requires g t c κs lives =
     let first = c.lay_interval.ensures in
     let done = c.in_ok-size.ensures in
     let are = c.in-Some.ensures.cases.0 in
-    let many = ap length are in
-    (
+    let many = ap length are in (
       omega (arith, many, c.decreases),
-      (lives.0, (lives.1, (
-        (subst (AllByRecursion (λ (i : Interval). IsTrue (is_zoom_range i))) are c.requires.ranges).1,
-        (omega (arith, many, c.requires.few), (omega (arith, c.push.ensures.len, many, c.requires.fits), (
-          c.requires.bounds,
-          (first.only.same.started ∙ c.requires.started, (done.reading, (
-            omega (arith, done.fewer, c.requires.rows),
-            (done.there, (
-              (λ e. c.requires.apart_index (sym (ap (λ (p : Part TileRow). p.part) first.same_source) ∙ e ∙ first.same_index)),
-              ((λ e. c.requires.apart_tiles (sym (ap (λ (p : Part TileRow). p.part) first.same_source) ∙ e ∙ first.same_tiles)), (
-                others-room c.args.bounds.now c.args.index c.in-Some.first.now done.laid.done c.in_ok-size.size
-                    c.args.laid.now c.lay_interval.new.laid (g.P.Spill.state c.args.spill.now)
-                    (g.P.Spill.state c.lay_interval.new.spill) (length c.in-Some.others.now)
-                    (length c.args.intervals.now)
-                    (subst (AllByRecursion (λ (i : Interval). IsTrue (is_zoom_range i))) are c.requires.ranges).0
-                    c.requires.bounds done.laid.places_are done.laid.laid_are many c.requires.room,
-                λ told.
-                    let before = sym first.only.same.tells ∙ told in
-                    let found = c.requires.found before in
-                    (found.0, found.1, subst (λ n. AreToLay n found.0
-                        (tiles_from c.args.bounds.now (c.args.index + 1) c.in-Some.others.now ++ found.1)
-                        (rest_of c.in_ok-size.next c.lay_interval.new.reader.left)) (sym first.capacity)
-                        (first-done c.args.desk.now.records.capacity c.args.bounds.now c.args.index c.in-Some.first.now
-                        c.in-Some.others.now (rest_of c.args.held c.args.reader.now.left)
-                        (rest_of c.in_ok-size.next c.lay_interval.new.reader.left) (record { tiles = 0; bytes = 0 })
-                        c.in_ok-size.size c.args.laid.now c.lay_interval.new.laid (g.P.Spill.state c.args.spill.now)
-                        (g.P.Spill.state c.lay_interval.new.spill) before done.laid found.0 found.1
-                        (subst (λ (is : List Interval). AreToLay c.args.desk.now.records.capacity found.0
-                        (tiles_from c.args.bounds.now c.args.index is ++ found.1)
-                        (rest_of c.args.held c.args.reader.now.left)) are found.2)).to_lay),
-              )),
-            )),
-          ))),
-        ))),
-      )))
+      (
+        lives.0,
+        (
+          lives.1,
+          (
+            (subst (AllByRecursion (λ (i : Interval). IsTrue (is_zoom_range i))) are c.requires.ranges).1,
+            (
+              omega (arith, many, c.requires.few),
+              (
+                omega (arith, c.push.ensures.len, many, c.requires.fits),
+                (
+                  c.requires.bounds,
+                  (
+                    first.only.same.started ∙ c.requires.started,
+                    (
+                      done.reading,
+                      (
+                        omega (arith, done.fewer, c.requires.rows),
+                        (
+                          done.there,
+                          (
+                            (λ e. c.requires.apart_index (sym (ap (λ (p : Part TileRow). p.part) first.same_source) ∙ e ∙ first.same_index)),
+                            (
+                              (λ e. c.requires.apart_tiles (sym (ap (λ (p : Part TileRow). p.part) first.same_source) ∙ e ∙ first.same_tiles)),
+                              (
+                                others-room c.args.bounds.now c.args.index c.in-Some.first.now done.laid.done c.in_ok-size.size
+                                    c.args.laid.now c.lay_interval.new.laid (g.P.Spill.state c.args.spill.now)
+                                    (g.P.Spill.state c.lay_interval.new.spill) (length c.in-Some.others.now)
+                                    (length c.args.intervals.now)
+                                    (subst (AllByRecursion (λ (i : Interval). IsTrue (is_zoom_range i))) are c.requires.ranges).0
+                                    c.requires.bounds done.laid.places_are done.laid.laid_are many c.requires.room,
+                                λ told.
+                                    let before = sym first.only.same.tells ∙ told in
+                                    let found = c.requires.found before in (
+                                      found.0,
+                                      found.1,
+                                      subst (λ n. AreToLay n found.0
+                                          (tiles_from c.args.bounds.now (c.args.index + 1) c.in-Some.others.now ++ found.1)
+                                          (rest_of c.in_ok-size.next c.lay_interval.new.reader.left)) (sym first.capacity)
+                                          (first-done c.args.desk.now.records.capacity c.args.bounds.now c.args.index c.in-Some.first.now
+                                          c.in-Some.others.now (rest_of c.args.held c.args.reader.now.left)
+                                          (rest_of c.in_ok-size.next c.lay_interval.new.reader.left) (record { tiles = 0; bytes = 0 })
+                                          c.in_ok-size.size c.args.laid.now c.lay_interval.new.laid (g.P.Spill.state c.args.spill.now)
+                                          (g.P.Spill.state c.lay_interval.new.spill) before done.laid found.0 found.1
+                                          (subst (λ (is : List Interval). AreToLay c.args.desk.now.records.capacity found.0
+                                          (tiles_from c.args.bounds.now c.args.index is ++ found.1)
+                                          (rest_of c.args.held c.args.reader.now.left)) are found.2)).to_lay,
+                                    ),
+                              ),
+                            ),
+                          ),
+                        ),
+                      ),
+                    ),
+                  ),
+                ),
+              ),
+            ),
+          ),
+        ),
+      ),
     )
 
 pub returns-clause-limit : goal.returns-clause-limit

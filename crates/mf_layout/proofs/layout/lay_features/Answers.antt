@@ -12,9 +12,11 @@ use Rattle.mf_layout.proofs.layout.lay_features.Goals as goal
 
 pub order_members-requires-clause-found : goal.order_members-requires-clause-found
 order_members-requires-clause-found g c told =
-    let found = c.requires.found told in
-    (found.2.shapes.spelled, may-spread c.args.desk.now.records.capacity found.0 found.1 c.args.shapes.shapes.rows found.2
-        c.len-known.ensures.known)
+    let found = c.requires.found told in (
+      found.2.shapes.spelled,
+      may-spread c.args.desk.now.records.capacity found.0 found.1 c.args.shapes.shapes.rows found.2
+          c.len-known.ensures.known,
+    )
 
 pub returns-in_err-ordered-clause-within : goal.returns-in_err-ordered-clause-within
 returns-in_err-ordered-clause-within g c mapping list told are fits =
@@ -42,10 +44,12 @@ lay_ordered-requires-clause-found g c told =
     let box = c.args.bounds.now in
     let rows = c.args.shapes.shapes.rows in
     let may = may-spread limit found.0 found.1 rows found.2 c.len-known.ensures.known in
-    let ordered = c.in_ok-ordered.ensures.ordered before found.2.shapes.spelled may in
-    (ordered.made, subst (λ (n : ℕ). AreToLay n ordered.made (all_tiles set box) c.in_ok-ordered.ordered.rows)
-        (sym c.order_members.ensures.capacity)
-        (to-lay limit found.0 found.1 rows found.2 set box c.in_ok-ordered.ordered.rows ordered))
+    let ordered = c.in_ok-ordered.ensures.ordered before found.2.shapes.spelled may in (
+      ordered.made,
+      subst (λ (n : ℕ). AreToLay n ordered.made (all_tiles set box) c.in_ok-ordered.ordered.rows)
+          (sym c.order_members.ensures.capacity)
+          (to-lay limit found.0 found.1 rows found.2 set box c.in_ok-ordered.ordered.rows ordered),
+    )
 
 pub returns-clause-laid : goal.returns-clause-laid
 returns-clause-laid g c = IfOk-weaker c.lay_ordered.result _ _ (λ subs laid told mapping list are.

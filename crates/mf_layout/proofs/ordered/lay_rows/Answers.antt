@@ -34,11 +34,14 @@ lay_intervals-requires-clause-found g c told =
     let left = given_rest c.in_ok-held.held c.next.new.self.left c.in_ok-held.ensures.next before
     ∙ c.start-reader.ensures.left in
     let tiles = ap (λ (is : List Interval). tiles_from c.args.bounds.now 0 is ++ []) c.deref.ensures.0
-    ∙ tiles-all (settings_of c.args.set.now) c.args.bounds.now in
-    (list, [], subst (λ (ts : List TilePlace). AreToLay c.args.desk.now.records.capacity list ts
-        (rest_of c.in_ok-held.held c.next.new.self.left)) (sym tiles)
-        (subst (λ (rows : List TileRow). AreToLay c.args.desk.now.records.capacity list
-        (all_tiles (settings_of c.args.set.now) c.args.bounds.now) rows) (sym left) (c.requires.found before).1))
+    ∙ tiles-all (settings_of c.args.set.now) c.args.bounds.now in (
+      list,
+      [],
+      subst (λ (ts : List TilePlace). AreToLay c.args.desk.now.records.capacity list ts
+          (rest_of c.in_ok-held.held c.next.new.self.left)) (sym tiles)
+          (subst (λ (rows : List TileRow). AreToLay c.args.desk.now.records.capacity list
+          (all_tiles (settings_of c.args.set.now) c.args.bounds.now) rows) (sym left) (c.requires.found before).1),
+    )
 
 pub returns-in_err-next-clause-limit : goal.returns-in_err-next-clause-limit
 returns-in_err-next-clause-limit g c f list err told to_lay =
