@@ -1,5 +1,7 @@
 //! What is gathered of whole inputs, by a table, and devices that fail.
 
+ghost use Rattle.std.specs.Prelude.{◌≡◌, None};
+
 use super::*;
 use crate::job::{Job, has_ways};
 use job_words::job::read_job;
