@@ -2,8 +2,7 @@
 //!
 //! `usage_word` names the options, and `values` reads their values. `usage` tells the first option that breaks its
 //! rule, and `settings` what the words set. `mapping_file` reads the file of a mapping from a shelf. `job` puts all
-//! together, and `refusal` has what is said of words that are no job. The table of the options is in
-//! `specs/OptionTable.antt`.
+//! together, and `refusal` tells why words are no job. The table of the options is in `specs/OptionTable.antt`.
 #![tactic(auto)]
 
 pub mod job;

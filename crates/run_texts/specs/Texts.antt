@@ -1,5 +1,5 @@
--- What a run says of the fault of an input, and of what passes its limit. This project's own.
-use Rattle.std.specs.Prelude.{ℕ, ℤ, ◌∷◌, ◌++◌, codes}
+-- What a run says: its lines, and the texts of the fault of an input and of what passes its limit. This project's own.
+use Rattle.std.specs.Prelude.{ℕ, ℤ, [], ◌∷◌, ◌++◌, codes}
 use Rattle.std.specs.Fmt.{signed_decimal}
 use Rattle.mf_base.specs.Texts.{Text}
 use Rattle.mf_base.specs.declared.kind.EntityKind.{EntityKind}
@@ -10,6 +10,12 @@ use Rattle.osm_model.specs.declared.faults.InputCode.{InputCode}
 use Rattle.osm_model.specs.declared.faults.InputFault.{InputFault}
 use Rattle.feature_model.specs.declared.fault.LimitFault.{LimitFault}
 use Rattle.map_model.specs.MapFile.{worded}
+
+-- ---- lines
+
+-- The line of the program about a fault of which this is the text. The line of a finished run has no such front.
+abbrev pub line_of : Text → Text
+line_of text = codes "mfwrite: " ++ text ++ 10 ∷ []
 
 -- ---- the fault of an input
 

@@ -1,28 +1,27 @@
 //! What is said of what passes its limit.
 
-ghost use Rattle.std.specs.Prelude.{◌≡◌, ◌+◌, ◌≤◌, length};
-ghost use Rattle.mf_base.specs.Buffer.{HasRoom, AppendsTo};
+ghost use Rattle.std.specs.Prelude.{◌≡◌, ◌+◌, ◌≤◌, ◌++◌, length};
 ghost use Rattle.run_texts.specs.Texts as spec;
 
+use crate::line::Line;
 use crate::worded::put_worded;
 use feature_model::fault::LimitFault;
 use mf_base::kind::EntityKind;
-use mf_base::out_buf::OutBuf;
 
 /// Puts the text of what passes its limit, without the program's name and the line feed: `limit KIND ID weight N`,
 /// `limit tile I x X y Y weight N` or `limit interval I size N`. It has at most 68 bytes: a place of an interval has at
 /// most 3 digits, a column or row 10, and an id, a weight or a size 20.
 #[tactic(auto, unfolding(crate::specs::Texts::limit_text))]
-pub fn put_limit(out: &mut OutBuf, fault: &LimitFault)
-    requires room { HasRoom out.old 68 }
-    ensures appends { AppendsTo out.old out.new (spec.limit_text fault.now) }
-    ensures most { length out.new.bytes ≤ length out.old.bytes + 68 }
+pub fn put_limit(line: &mut Line, fault: &LimitFault)
+    requires room { length line.old + 68 ≤ 320 }
+    ensures appends { line.new ≡ line.old ++ spec.limit_text fault.now }
+    ensures most { length line.new ≤ length line.old + 68 }
 {
     match *fault {
         LimitFault::Feature { kind, id, weight } => {
-            out.put(b"limit ");
-            put_worded(out, kind_name(kind), id);
-            put_worded(out, " weight", weight);
+            line.put(b"limit ");
+            put_worded(line, kind_name(kind), id);
+            put_worded(line, " weight", weight);
         }
         LimitFault::Tile {
             index,
@@ -30,14 +29,14 @@ pub fn put_limit(out: &mut OutBuf, fault: &LimitFault)
             y,
             weight,
         } => {
-            put_worded(out, "limit tile", index);
-            put_worded(out, " x", x);
-            put_worded(out, " y", y);
-            put_worded(out, " weight", weight);
+            put_worded(line, "limit tile", index);
+            put_worded(line, " x", x);
+            put_worded(line, " y", y);
+            put_worded(line, " weight", weight);
         }
         LimitFault::SubFile { index, size } => {
-            put_worded(out, "limit interval", index);
-            put_worded(out, " size", size);
+            put_worded(line, "limit interval", index);
+            put_worded(line, " size", size);
         }
     }
 }

@@ -1,16 +1,17 @@
-//! Texts of faults, limits and reports.
+//! Texts of faults, limits and reports, and whole lines.
 
 use crate::input::put_input;
 use crate::limit::put_limit;
+use crate::line::Line;
+use crate::lines::{finished_line, input_line, limit_line, plain_line, refusal_line};
 use crate::report::put_report;
 use feature_model::fault::LimitFault;
+use job_words::refusal::Refusal;
 use map_model::report::Report;
 use mf_base::kind::EntityKind;
-use mf_base::out_buf::OutBuf;
 use osm_model::faults::{
     BlockFault, EntityFault, FrameFault, InputCode, InputFault, MessageFault, WireFault,
 };
-use std::test::Fail;
 
 const WIRE: MessageFault = MessageFault::Wire(WireFault::Varint);
 
@@ -183,15 +184,12 @@ const INPUTS: [Said; 31] = [
 ];
 
 #[test]
-fn faults_of_inputs(rt: HostRuntime) -> Result<(), Fail> {
-    let mut out = OutBuf::new(rt.alloc(), 92)?;
+fn faults_of_inputs(rt: HostRuntime) {
     for (at, code, text) in INPUTS {
-        out.clear();
-        assert!(rt; out.spare() >= 92);
-        put_input(&mut out, &InputFault { at, code });
-        assert_eq!(rt; out.bytes(), text);
+        let mut line = Line::new();
+        put_input(&mut line, &InputFault { at, code });
+        assert_eq!(rt; line.bytes(), text);
     }
-    Ok(())
 }
 
 // What passes its limit, and what is said of it: each kind, and the longest text of all.
@@ -257,15 +255,12 @@ const LIMITS: [(LimitFault, &[u8]); 7] = [
 ];
 
 #[test]
-fn limits(rt: HostRuntime) -> Result<(), Fail> {
-    let mut out = OutBuf::new(rt.alloc(), 68)?;
+fn limits(rt: HostRuntime) {
     for (fault, text) in LIMITS {
-        out.clear();
-        assert!(rt; out.spare() >= 68);
-        put_limit(&mut out, &fault);
-        assert_eq!(rt; out.bytes(), text);
+        let mut line = Line::new();
+        put_limit(&mut line, &fault);
+        assert_eq!(rt; line.bytes(), text);
     }
-    Ok(())
 }
 
 // The numbers of a report, in their order, and its line: one bench, nine different numbers, and the longest line of all.
@@ -311,13 +306,36 @@ fn report_of(numbers: [u64; 9]) -> Report {
 }
 
 #[test]
-fn reports(rt: HostRuntime) -> Result<(), Fail> {
-    let mut out = OutBuf::new(rt.alloc(), 253)?;
-    for (numbers, line) in REPORTS {
-        out.clear();
-        assert!(rt; out.spare() >= 253);
-        put_report(&mut out, &report_of(numbers));
-        assert_eq!(rt; out.bytes(), line);
+fn reports(rt: HostRuntime) {
+    for (numbers, text) in REPORTS {
+        let mut line = Line::new();
+        put_report(&mut line, &report_of(numbers));
+        assert_eq!(rt; line.bytes(), text);
     }
-    Ok(())
+}
+
+// A fault of an input, a limit and a refusal, a text alone, and a report.
+#[test]
+fn whole_lines(rt: HostRuntime) {
+    let fault = InputFault {
+        at: 73,
+        code: InputCode::Block(BlockFault::BadBox),
+    };
+    let limit = LimitFault::SubFile { index: 2, size: 9 };
+    assert_eq!(rt;
+        input_line(&fault).bytes(),
+        b"mfwrite: input bad-box at 73\n".as_slice()
+    );
+    assert_eq!(rt;
+        limit_line(&limit).bytes(),
+        b"mfwrite: limit interval 2 size 9\n".as_slice()
+    );
+    assert_eq!(rt;
+        refusal_line(Refusal::MappingLong).bytes(),
+        b"mfwrite: mapping too-long\n".as_slice()
+    );
+    assert_eq!(rt; plain_line("read").bytes(), b"mfwrite: read\n".as_slice());
+    for (numbers, text) in REPORTS {
+        assert_eq!(rt; finished_line(&report_of(numbers)).bytes(), text);
+    }
 }
