@@ -1,11 +1,10 @@
 -- What is gathered, by what an ingest tells.
-use Rattle.std.proofs.Common.{◌≡◌, ◌∙◌, ◌+◌, ◌≤◌, List, ℕ, Option, Some, None, Result, Ok, Err, refl, sym, ap, subst}
-use Rattle.std.proofs.Common.{arith, length}
+use Rattle.std.proofs.Common.{◌≡◌, List, ℕ, Some, None, Result, Ok, Err, sym, subst}
+use Rattle.std.proofs.Common.{arith}
 use Rattle.std.specs.Option.{option_or}
 use Rattle.std.specs.Result.{IsErrAnd}
 use Rattle.mf_base.specs.declared.place.Rect.{Rect}
 use Rattle.osm_model.specs.declared.limits.TheConstants.{FRAME_LIMIT}
-use Rattle.osm_model.specs.Input.{input_fault}
 use Rattle.mf_edge.specs.Device.{SourceState}
 use Rattle.mf_edge.specs.Stream.{StreamState, IsWalk}
 use Rattle.pbf_frame.specs.FrameReading.{HasTaken}

@@ -1,3 +1,11 @@
 pub mod Rooms
 pub mod Boxes
 pub mod Gathered
+pub mod TileBytes
+pub mod JobSizes
+pub mod Limits
+pub mod Sufficient
+pub mod LaidOut
+pub mod BytesIn
+pub mod Outcomes
+pub mod Compiled

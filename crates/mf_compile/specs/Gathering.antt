@@ -1,8 +1,7 @@
 -- What is gathered of an input. This project's own.
-use Rattle.std.specs.Prelude.{◌≡◌, ◌+◌, ◌≤◌, ℕ, List, length, Some, Result, Ok, Err, ⊤}
+use Rattle.std.specs.Prelude.{◌≡◌, ◌+◌, ◌≤◌, ℕ, List, length, Result, Ok, Err, ⊤}
 use Rattle.mf_base.specs.declared.place.Rect.{Rect}
 use Rattle.osm_model.specs.declared.limits.TheConstants.{FRAME_LIMIT}
-use Rattle.osm_model.specs.Input.{input_fault}
 use Rattle.mf_edge.specs.Device.{SourceState, Took, IsAtEnd}
 use Rattle.extract_pass.specs.EntityPass.{HasInputFault}
 use Rattle.spill_parts.specs.declared.handed.Ingested.{Ingested}

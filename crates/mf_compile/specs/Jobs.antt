@@ -1,5 +1,5 @@
 -- What a job can be, and for how much it has room. This project's own.
-use Rattle.std.specs.Prelude.{◌≡◌, ℕ, ◌+◌, ◌*◌, ◌≤◌, List, [], map, replicate, sum_by}
+use Rattle.std.specs.Prelude.{◌≡◌, ℕ, ◌+◌, List, [], map, replicate, sum_by}
 use Rattle.mf_base.specs.Buffer.{Buffer}
 use Rattle.map_model.specs.Header.{header_size}
 use Rattle.map_model.specs.TagLists.{tag_lists}

@@ -1,5 +1,5 @@
 -- What a job comes to over the bytes of an input. This project's own.
-use Rattle.std.specs.Prelude.{ℕ, ◌+◌, List, Option, Some, None, option_map, ok_or, Result, Ok, Err}
+use Rattle.std.specs.Prelude.{ℕ, ◌+◌, List, Option, option_map, ok_or, Result, Ok, Err}
 use Rattle.mf_base.specs.declared.place.Rect.{Rect}
 use Rattle.mf_base.specs.Steps.{◌>>=◌, refuse}
 use Rattle.osm_model.specs.Input.{input_fault, input_entities, known_box}

@@ -1,4 +1,4 @@
-use Rattle.std.proofs.Common.{arith, rules, ◌≡◌, ap, ◌∙◌, sym}
+use Rattle.std.proofs.Common.{arith, ap, ◌∙◌}
 use Rattle.mf_compile.specs.Jobs.{desk_rooms}
 use Rattle.mf_compile.proofs.Rooms.{rooms-next}
 use Rattle.mf_compile.proofs.job.new_desks.Goals as goal

@@ -1,4 +1,4 @@
-use Rattle.std.proofs.Common.{arith, subst, sym, ap}
+use Rattle.std.proofs.Common.{arith}
 use Rattle.mf_compile.proofs.Rooms.{spare-next, spare-end}
 use Rattle.mf_compile.proofs.laws.spare_rows.Goals as goal
 
