@@ -1,67 +1,63 @@
 //! The map writer: compiles an extract of OpenStreetMap on standard input into a map on standard output.
 //!
-//! Read `run` first: its contract is what the program promises. `prepare` makes a `job` of the words, which
-//! `first_words` reads. `map` reads the input, lists the POIs (`poi_list`) and writes the header (`head`), the index
-//! (`index`) and the tile; `status` has the texts, `report` the line of a finished run. `laws` and `rows` are about the
-//! definitions.
+//! What it does is `program` of the crate `mf_run`, over the devices of the system. `arguments`, `clock` and `standard`
+//! ask the system.
 #![tactic(auto)]
 
-mod arguments;
-mod first_words;
-mod head;
-mod index;
-mod job;
-mod laws;
-mod map;
-mod poi_list;
-mod prepare;
-mod report;
-mod rows;
-mod run;
-mod status;
-#[cfg(test)]
-mod tests;
+ghost use Rattle.std.specs.Prelude.{◌≡◌, ◌<◌};
 
-use arguments::behind_the_name;
-use mf_edge::{ReadSource, WriteSink};
-use prepare::{Prepared, Refusal};
-use run::{program, run};
-use std::io::ErrorKind;
+mod arguments;
+mod clock;
+mod standard;
+
+use arguments::{all_words, behind_the_name};
+use clock::milliseconds_now;
+use mf_edge::{FileShelf, ReadSource, Steps, WriteSink};
+use mf_run::prepare::Prepared;
+use mf_run::run::{program, run};
+use spill_files::FileSpill;
+use standard::hold_standard;
+use std::marker::Brand;
 use std::process::ExitCode;
-use std::{env, io};
+use std::sync::ledger::{Blank, Ledger};
 
 fn main(rt: HostRuntime) -> ExitCode {
+    let _held = hold_standard(&rt);
+    ExitCode::from(status_of_run::<Brand>(&rt, Blank::new(1)))
+}
+
+// Runs over the devices of the system, and answers the status.
+fn status_of_run<L: Ledger>(rt: &HostRuntime, blank: Blank) -> u8
+    requires ledger { blank.name ≡ L.name }
+    requires parts { blank.parts ≡ L.parts }
+    requires some { 0 < blank.parts }
+{
+    let mut steps = Steps::<L>::new(blank);
     let mut input = ReadSource::new(rt.stdin());
     let mut output = WriteSink::new(rt.stdout());
     let mut say = WriteSink::new(rt.stderr());
-    let status = match all_words(&rt) {
+    let mut spill = FileSpill::new(*rt);
+    let status = match all_words(rt) {
         Ok(all) => program(
             rt.alloc(),
             behind_the_name(&all),
+            &mut FileShelf::new(*rt),
+            milliseconds_now(rt),
             &mut input,
             &mut output,
             &mut say,
+            &mut spill,
+            &mut steps,
         ),
         Err(refusal) => run(
             Prepared::Refused(refusal),
             &mut input,
             &mut output,
             &mut say,
+            &mut spill,
+            &mut steps,
         ),
     };
-    ExitCode::from(status)
-}
-
-// The words of the command line, with the program's name.
-fn all_words(rt: &HostRuntime) -> Result<Vec<String>, Refusal> {
-    let all = env::args(rt).map_err(refusal_of)?;
-    all.collect(rt.alloc()).map_err(|_| Refusal::Memory)
-}
-
-// Why the words can't be had.
-fn refusal_of(fault: io::Error) -> Refusal {
-    match fault.kind() {
-        ErrorKind::OutOfMemory => Refusal::Memory,
-        _ => Refusal::NotBuilt,
-    }
+    spill.finish();
+    status
 }

@@ -1,0 +1,4 @@
+pub mod Judged
+pub mod Causes
+pub mod Alike
+pub mod Preparing

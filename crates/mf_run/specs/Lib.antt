@@ -1,0 +1,4 @@
+pub mod Statuses
+pub mod Prepared
+pub mod Run
+pub mod Decided
