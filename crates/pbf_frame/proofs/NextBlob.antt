@@ -1,9 +1,9 @@
 -- Blobs that are passed over, and what comes behind them.
-use Rattle.std.proofs.Common.{◌≡◌, ◌∙◌, ℕ, ◌+◌, ◌<◌, List, [], ◌∷◌, ◌++◌, length, refl, sym, ap, subst, arith, true}
-use Rattle.std.proofs.Common.{Option, Some, Result, Ok, Err, append_assoc, append-nil, length-append}
+use Rattle.std.proofs.Common.{◌≡◌, ◌∙◌, ℕ, ◌+◌, ◌<◌, List, [], ◌∷◌, ◌++◌, length, refl, sym, ap, subst, true}
+use Rattle.std.proofs.Common.{Option, Some, Result, Ok, Err, append-nil}
 use Rattle.std.specs.Prelude.{slice_range}
 use Rattle.std.proofs.lemmas.List.Elements.{filter-append}
-use Rattle.mf_edge.specs.Device.{SourceState, IsAtEnd}
+use Rattle.mf_edge.specs.Device.{SourceState}
 use Rattle.mf_edge.specs.Stream.{StreamState}
 use Rattle.osm_model.proofs.FrameListLaws.{frames_join}
 use Rattle.osm_model.specs.declared.faults.FrameFault.{FrameFault}
@@ -14,7 +14,7 @@ use Rattle.pbf_frame.specs.declared.frame_fault.NextFault.TheVariants as next_fa
 use Rattle.pbf_frame.specs.declared.frame.BlobKind.{BlobKind}
 use Rattle.pbf_frame.specs.declared.frame.BlobKind.TheVariants.{Header, Primitive}
 use Rattle.pbf_frame.specs.declared.frame.Frame as given
-use Rattle.pbf_frame.specs.declared.blob_read.Step.TheVariants.{End, Passed, Kept}
+use Rattle.pbf_frame.specs.declared.blob_read.Step.TheVariants.{Passed, Kept}
 use Rattle.pbf_frame.specs.FrameReading.{HasTaken, BeginsNoBlob, FailsBehind, TakesBlobs, frame_shown, content_shown}
 use Rattle.pbf_frame.specs.BlobReading.{FailsAt, SpellsStep}
 use Rattle.pbf_frame.proofs.TakenSteps.{taken-then}
@@ -51,11 +51,6 @@ leads-to at m block source f x y h place (near, placed, spelled) = record {
       (subst (λ n. AreFrames n y (frame_shown block f ∷ [])) place
       (one_frame (frame_shown block f) m y placed near spelled));
 }
-
-pub passes-end : (at m : ℕ) (block : List ℕ) (source : SourceState) (x y : List ℕ) → PassesOver at x
-    → SpellsStep m block source End y → PassesOver at (x ++ y) × IsAtEnd source
-passes-end at m block source x y h (none, end) =
-    (subst (PassesOver at) (sym (append-nil x) ∙ ap (λ b. x ++ b) (sym none)) h, end)
 
 -- what was taken is as much as the offset rose
 counted : (old new : StreamState) (P : List ℕ → Type 0) → HasTaken P old new
