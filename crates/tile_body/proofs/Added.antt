@@ -5,7 +5,6 @@ use Rattle.std.specs.Prelude.{slice_get, IfSome, AllPairs}
 use Rattle.std.specs.List.{AllByRecursion}
 use Rattle.std.proofs.lemmas.Bool.{cases_lt, cases_eq}
 use Rattle.std.proofs.lemmas.List.{length-map, length-take, map-append, get_or_append_left, get_or-take, take_more}
-use Rattle.std.proofs.lemmas.List.{take_all}
 use Rattle.std.proofs.lemmas.Option.{slice_get_within, get_or_from_slice_get, none-some}
 use Rattle.std.proofs.Math.Seq.{get_or-append_seam}
 use Rattle.mf_base.specs.declared.tile.Interval.{Interval}
@@ -242,12 +241,6 @@ each-next interval records i h = by_found (slice_get records i) refl
         taken zero rs = refl
         taken (suc n) [] = refl
         taken (suc n) (r ∷ rs) = ap (λ fs. feature_told r ∷ fs) (taken n rs)
-
-pub tested-all : (tile : TilePlace) (d : Desktop) (i : ℕ) → d.capacity ≤ rows_limit → length d.records ≤ i
-    → AreInOrder tile.interval (take i d.records) → HoldsMembers tile d
-tested-all tile d i room end h =
-    let all = subst (AreInOrder tile.interval) (take_all i d.records end) h in
-    record { room = room; each = all.each; order = all.order }
 
 pub all-in_order : (tile : TilePlace) (d : Desktop) → HoldsMembers tile d → AreInOrder tile.interval d.records
 all-in_order tile d h = record { each = h.each; order = h.order }

@@ -1,12 +1,12 @@
 -- The zoom table, while members are counted and while it is put.
-use Rattle.std.proofs.Common.{◌≡◌, ℕ, zero, suc, ◌+◌, ◌-◌, ◌≤◌, ◌<◌, ◌^◌, List, [], ◌∷◌, ◌++◌, length, refl, sym}
+use Rattle.std.proofs.Common.{◌≡◌, ℕ, zero, suc, ◌+◌, ◌-◌, ◌≤◌, ◌<◌, List, [], ◌∷◌, ◌++◌, length, refl, sym}
 use Rattle.std.proofs.Common.{ap}
 use Rattle.std.proofs.Common.{◌∙◌, arith, Some, Bool, true, false, drop, get_or, inl, inr}
 use Rattle.std.proofs.Common.{append_assoc, subst}
 use Rattle.std.specs.Prelude.{filter, flat_map, slice_get, cond, ◌==◌, slice_set}
 use Rattle.std.specs.List.{range_with_len}
 use Rattle.std.proofs.lemmas.Bool.{cases_eq, eq-eqb, ne_eqb}
-use Rattle.std.proofs.lemmas.List.{drop_all, get_or-set_same, get_or-set_other, length-set}
+use Rattle.std.proofs.lemmas.List.{get_or-set_same, get_or-set_other, length-set}
 use Rattle.mf_base.specs.Buffer.{Buffer, AppendsTo, HasRoom}
 use Rattle.mf_base.specs.Spelling.{vbe_unsigned}
 use Rattle.mf_base.specs.declared.tile.Interval.{Interval}
@@ -17,7 +17,7 @@ use Rattle.map_model.specs.Intervals.{raised_zoom}
 use Rattle.mf_rows.specs.Records.{Record, candidate_told}
 use Rattle.mf_rows.specs.declared.head.Head.{Head}
 use Rattle.mf_rows.specs.Shapes.{feature_told}
-use Rattle.tile_body.specs.Tables.{AreCounts, AreFew, one_more, counted_if, level_bytes, levels_bytes}
+use Rattle.tile_body.specs.Tables.{AreCounts, one_more, counted_if, level_bytes, levels_bytes}
 use Rattle.tile_body.specs.Tiles.{features_told, count_at, counts_at, table_bytes}
 use Rattle.tile_body.proofs.Classes.{drop-next}
 use Rattle.way_delta.proofs.Writing.{Completes, completes-part, completes-more, completes-all, completes-front}
@@ -55,27 +55,6 @@ pub record CountsSoFar (class : Feature → Bool) (interval : Interval) (records
   pub sum : (z : ℕ) → z < 22 → get_or counts z 0 + count_at class interval z (features_told (drop i records))
       ≡ count_at class interval z (features_told records)
   pub few : (z : ℕ) → get_or counts z 0 ≤ i
-
-pub counts-none : (class : Feature → Bool) (interval : Interval) (records : List Record) (counts : List ℕ)
-    → length counts ≡ 22 → ((z : ℕ) → get_or counts z 0 ≡ 0) → CountsSoFar class interval records 0 counts
-counts-none class interval records counts wide zeros = record {
-  wide = wide;
-  sum = λ z low. let none = zeros z in omega (arith, none);
-  few = λ z. let none = zeros z in omega (arith, none);
-}
-
-pub counts-few : (class : Feature → Bool) (interval : Interval) (records : List Record) (i : ℕ) (counts : List ℕ)
-    → i < 2 ^ 28 → CountsSoFar class interval records i counts → AreFew counts
-counts-few class interval records i counts low h z = let few = h.few z in omega (arith, few, low)
-
-pub counts-all : (class : Feature → Bool) (interval : Interval) (records : List Record) (i : ℕ) (counts : List ℕ)
-    → length records ≤ i → CountsSoFar class interval records i counts
-    → AreCounts class interval (features_told records) counts
-counts-all class interval records i counts past h z low =
-    let sum = h.sum z low in
-    let none : count_at class interval z (features_told (drop i records)) ≡ 0 =
-    ap (λ rs. count_at class interval z (features_told rs)) (drop_all i records past) in
-    omega (arith, sum, none)
 
 one_more-at : (counts : List ℕ) (zoom z : ℕ) → zoom < length counts
     → get_or (one_more counts zoom) z 0 ≡ get_or counts z 0 + cond (zoom == z) 1 0

@@ -280,5 +280,3 @@ tile-most tile d is h within =
 pub tile-room : (tile : TilePlace) (d : Desktop) → IsTile tile → HoldsMembers tile d → used d ≤ d.capacity
     → length (tile_bytes tile (map feature_told d.records)) + 10 ≤ 16 * d.capacity + 256
 tile-room tile d is h within = let room = tile-most tile d is h within in omega (arith, room, within)
-
-pub ruleset desk_laws = (tile-room)

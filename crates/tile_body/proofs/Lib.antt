@@ -1,8 +1,3 @@
-pub mod Compute
-pub mod PoiBytes
-pub mod Levels
-pub mod Features
-pub mod Writing
 pub mod TextRoom
 pub mod ShapeRoom
 pub mod DeskRoom

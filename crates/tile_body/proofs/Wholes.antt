@@ -1,20 +1,19 @@
 -- A whole tile: what is put one after another, what holds of each member, and that the tile is read again.
-use Rattle.std.proofs.Common.{◌≡◌, ◌≢◌, ℕ, ◌+◌, ◌*◌, ◌^◌, ◌≤◌, ◌<◌, List, [], ◌∷◌, ◌++◌, length, map, refl}
-use Rattle.std.proofs.Common.{sym}
+use Rattle.std.proofs.Common.{◌≡◌, ℕ, ◌+◌, ◌*◌, ◌^◌, ◌≤◌, ◌<◌, List, [], ◌∷◌, ◌++◌, length, map, refl}
+use Rattle.std.proofs.Common.{sym, zero, suc}
 use Rattle.std.proofs.Common.{ap, ◌∙◌, arith, length-append, Bool, true, false, Ok, subst, inl, inr}
-use Rattle.std.specs.Prelude.{nat_lt, min}
+use Rattle.std.specs.Prelude.{nat_lt, min, ◌==◌}
 use Rattle.std.specs.List.{AllByRecursion}
 use Rattle.std.proofs.lemmas.Bool.{cases_lt, lt-ltb, le-ltb}
 use Rattle.std.proofs.lemmas.List.{length-map}
 use Rattle.mf_base.specs.Buffer.{Buffer, AppendsTo}
 use Rattle.mf_base.specs.Spelling.{vbe_unsigned}
-use Rattle.mf_base.specs.declared.kind.EntityKind.{EntityKind}
 use Rattle.mf_base.specs.declared.place.Place.{Place}
 use Rattle.mf_base.specs.declared.tile.TilePlace.{TilePlace}
 use Rattle.feature_model.specs.Mapping.{Mapping}
 use Rattle.feature_model.specs.Entries.{IsMapping}
 use Rattle.map_model.specs.Room.{rows_limit, IsWritten}
-use Rattle.map_model.specs.Members.{is_node_kind, in_tile_order}
+use Rattle.map_model.specs.Members.{in_tile_order}
 use Rattle.map_model.specs.Bitmap.{sub_tile_bits}
 use Rattle.map_model.specs.Layout.{sized}
 use Rattle.map_model.specs.TileBytes.{tile_corner, tile_bytes, coordinate_size, is_double}
@@ -27,7 +26,7 @@ use Rattle.map_model.proofs.RecordsAgain.{reads_written}
 use Rattle.map_model.proofs.WrittenLevels.{levels-told}
 use Rattle.mf_rows.specs.Desks.{Desktop, units_in, used}
 use Rattle.mf_rows.specs.Records.{Record, candidate_told}
-use Rattle.mf_rows.specs.RecordUnits.{unit_count, parts_count}
+use Rattle.mf_rows.specs.RecordUnits.{unit_count}
 use Rattle.mf_rows.specs.Shapes.{feature_told}
 use Rattle.way_delta.specs.Rings.{blocks_told, blocks_bytes}
 use Rattle.way_delta.proofs.Writing.{puts-two}
@@ -41,17 +40,6 @@ use Rattle.tile_body.proofs.DeskRoom.{in-order, way-room-told, few-records}
 use Rattle.tile_body.proofs.Bodies.{way-parts}
 
 -- ---- one member
-
-pub node-kind : (kind : EntityKind) → is_node_kind kind ≡ true → kind ≡ EntityKind.Node
-node-kind EntityKind.Node is = refl
-node-kind EntityKind.Way is = absurd (cc is)
-node-kind EntityKind.Relation is = absurd (cc is)
-
-pub way-kind : (kind : EntityKind) → is_node_kind kind ≡ false → kind ≢ EntityKind.Node
-way-kind kind is node = absurd (cc (sym (ap is_node_kind node) ∙ is))
-
-pub few-parts : (r : Record) → unit_count r ≤ rows_limit → parts_count r.parts < 2 ^ 32
-few-parts r light = omega (arith, light)
 
 pub body-fits : (tile : TilePlace) (r : Record) (d : Drawn) → IsWayIn tile r → IsDrawn tile r d
     → length (body_of r d) < 2 ^ 32
@@ -199,3 +187,8 @@ read-told mapping tile d is h within room m all =
     let count = few.0 in
     read-whole mapping tile d.records is (in-order tile d is h) m all (omega (arith, count))
     (omega (arith, room, most))
+
+-- a test for none that fails
+pub some-there : (n : ℕ) → (n == 0) ≡ false → 0 < n
+some-there zero e = absurd (cc e)
+some-there (suc n) e = omega arith

@@ -1,4 +1,3 @@
-pub mod FirstTile
 pub mod Members
 pub mod Tested
 pub mod Tags

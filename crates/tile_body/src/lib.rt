@@ -1,20 +1,17 @@
 //! The bytes of a tile.
 //!
 //! `encode` spells a tile of any members from a desk: `table` has the zoom table, `poi` and `way` the members, `tags`
-//! and `texts` what both have, and `label` where a label stands. `first_tile` puts a tile of POIs that have one tag and
-//! nothing else. The bytes are defined in `map_model`, `specs/Members` says what a desk has to hold, and `holding` tests
-//! whether it does.
+//! and `texts` what both have, and `label` where a label stands. The bytes are defined in `map_model`, `specs/Members`
+//! says what a desk has to hold, and `holding` tests whether it does.
 #![tactic(auto)]
 
 mod class;
 pub mod encode;
-pub mod first_tile;
 pub mod holding;
 mod label;
 pub mod laws;
 mod members;
 mod poi;
-pub mod rows;
 mod spelled;
 mod table;
 mod tags;

@@ -6,8 +6,7 @@ use Rattle.map_model.specs.TileBytes.{tile_bytes}
 use Rattle.tile_body.specs.Tiles.{features_told, table_bytes, pois_bytes}
 use Rattle.tile_body.proofs.Bodies.{size-after}
 use Rattle.tile_body.proofs.DeskRoom.{tile-room}
-use Rattle.tile_body.proofs.Wholes.{tile-length, puts-tile, no-members, are-low, few-members}
-use Rattle.tile_body.proofs.Writing.{some-there}
+use Rattle.tile_body.proofs.Wholes.{tile-length, puts-tile, no-members, are-low, few-members, some-there}
 use Rattle.tile_body.proofs.encode.put_tile.Goals as goal
 
 pub returns-then-is_empty : goal.returns-then-is_empty
