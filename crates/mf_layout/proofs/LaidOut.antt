@@ -1,11 +1,11 @@
 -- Tiles are laid out of rows, some and then others.
-use Rattle.std.proofs.Common.{◌≡◌, ℕ, ◌<◌, ◌≤◌, List, [], ◌∷◌, ◌++◌, map, length}
+use Rattle.std.proofs.Common.{◌≡◌, ℕ, ◌≤◌, List, [], ◌∷◌, ◌++◌, map, length}
 use Rattle.std.proofs.Common.{Option, Some, None, refl, sym, ap, subst, ◌∙◌, append_assoc}
 use Rattle.std.specs.Prelude.{Bool, nat_lt, find, option_map}
 use Rattle.std.specs.Option.{option_or}
 use Rattle.std.proofs.lemmas.List.{map-append, length-map}
 use Rattle.std.proofs.lemmas.List.Folds.{find-append}
-use Rattle.std.proofs.lemmas.Bool.{lt-ltb, le-ltb}
+use Rattle.std.proofs.lemmas.Bool.{le-ltb}
 use Rattle.mf_base.specs.declared.tile.TilePlace.{TilePlace}
 use Rattle.mf_edge.specs.Spill.{SpillState}
 use Rattle.feature_model.specs.Features.{Feature}
@@ -56,10 +56,6 @@ fault-first limit features tiles others f some =
 pub one-within : (limit : ℕ) (features : List Feature) (t : TilePlace) → tile_weight features t ≤ limit
     → tiles_fault limit features (t ∷ []) ≡ None
 one-within limit features t le = rw (le-ltb limit (tile_weight features t) le) refl
-
-pub one-over : (limit : ℕ) (features : List Feature) (t : TilePlace) → limit < tile_weight features t
-    → tiles_fault limit features (t ∷ []) ≡ Some (tile_over features t)
-one-over limit features t less = rw (lt-ltb limit (tile_weight features t) less) refl
 
 -- ---- some tiles and then others
 

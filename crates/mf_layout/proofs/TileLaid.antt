@@ -1,9 +1,8 @@
--- A tile that was loaded is laid out, or is the first over the limit.
-use Rattle.std.proofs.Common.{◌≡◌, ℕ, ◌≤◌, ◌<◌, List, [], ◌∷◌, map, Some}
-use Rattle.std.proofs.Common.{sym, ap, ◌∙◌, arith}
+-- A tile that was loaded is laid out.
+use Rattle.std.proofs.Common.{◌≡◌, ℕ, ◌≤◌, List, [], ◌∷◌, map}
+use Rattle.std.proofs.Common.{arith}
 use Rattle.mf_base.specs.declared.tile.TilePlace.{TilePlace}
 use Rattle.mf_base.proofs.Pairs.{each_pair, all_pairs}
-use Rattle.feature_model.specs.declared.fault.LimitFault.{LimitFault}
 use Rattle.map_model.specs.NumberedMembers.{TileBelow}
 use Rattle.map_model.specs.Room.{rows_limit}
 use Rattle.mf_rows.specs.Desks.{Desktop}
@@ -14,8 +13,8 @@ use Rattle.tile_body.specs.Tiles.{features_told}
 use Rattle.tile_rows.specs.TileRows.{shown}
 use Rattle.tile_load.specs.Loading.{IsLoaded}
 use Rattle.tile_load.specs.declared.load.LoadedTile.{LoadedTile}
-use Rattle.mf_layout.specs.Laying.{tiles_fault, AreToLay, AreDone}
-use Rattle.mf_layout.proofs.LaidOut.{one-within, one-over}
+use Rattle.mf_layout.specs.Laying.{AreToLay, AreDone}
+use Rattle.mf_layout.proofs.LaidOut.{one-within}
 use Rattle.mf_layout.proofs.Shown.{features-are, holds-members}
 
 module _ (limit : ℕ) (list : List Spelled) (tile : TilePlace) (later : List TilePlace) (rows left : List TileRow)
@@ -48,10 +47,3 @@ module _ (limit : ℕ) (list : List Spelled) (tile : TilePlace) (later : List Ti
   tile-holds few fits =
       holds-members limit to_lay.mapping to_lay.is_mapping few list tile d to_lay.left.light to_lay.may_show room
       (loaded.members_are (omega (arith, fits, room)))
-
-  -- it is over the limit
-  pub tile-fault : limit < l.weight
-      → tiles_fault limit (map shown list) (tile ∷ []) ≡ Some (LimitFault.Tile tile.index tile.x tile.y l.weight)
-  tile-fault over =
-      one-over limit (map shown list) tile (omega (arith, over, loaded.weight_is))
-      ∙ ap (λ (n : ℕ). Some (LimitFault.Tile tile.index tile.x tile.y n)) (sym loaded.weight_is)

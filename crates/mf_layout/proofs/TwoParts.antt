@@ -1,11 +1,9 @@
 -- What calls leave of a store in which two parts are written.
-use Rattle.std.proofs.Common.{◌≡◌, ◌≢◌, ℕ, refl, sym, ap, subst, ◌∙◌}
-use Rattle.mf_edge.specs.Spill.{SpillState, SameParts, TouchesOnly}
+use Rattle.std.proofs.Common.{◌≡◌, ◌≢◌, ℕ, refl, sym, subst, ◌∙◌}
+use Rattle.mf_edge.specs.Spill.{SpillState}
 use Rattle.mf_rows.specs.RowKinds.{Kind}
-use Rattle.mf_rows.specs.declared.kinds.IndexRow.{IndexRow}
-use Rattle.spill_parts.specs.Parts.{Part, BytePart, Piece, IsThere, Reading, PageBytes, IsReading}
-use Rattle.spill_parts.proofs.Kept.{there_same}
-use Rattle.mf_layout.specs.Laid.{AreThere, TouchesTwo}
+use Rattle.spill_parts.specs.Parts.{Piece, IsThere, Reading, PageBytes, IsReading}
+use Rattle.mf_layout.specs.Laid.{TouchesTwo}
 
 -- nothing was called
 pub two-none : (p q : ℕ) (a : SpillState) → TouchesTwo p q a a
@@ -15,35 +13,6 @@ two-none p q a = record {
   overrun = refl;
   sizes = λ n _ _. refl;
   bytes = λ n _ _. refl;
-}
-
--- the store was read
-pub two-read : (p q : ℕ) (a b : SpillState) → SameParts a b → TouchesTwo p q a b
-two-read p q a b same = subst (TouchesTwo p q a) (sym same) (record {
-  same = record { name = refl; started = refl; tells = refl };
-  count = refl;
-  overrun = refl;
-  sizes = λ n _ _. refl;
-  bytes = λ n _ _. refl;
-})
-
--- one of the two was written
-pub two-first : (p q : ℕ) (a b : SpillState) → TouchesOnly p a b → b.is_overrun ≡ a.is_overrun → TouchesTwo p q a b
-two-first p q a b only overrun = record {
-  same = only.same;
-  count = only.count;
-  overrun = overrun;
-  sizes = λ n apart _. only.others.size n apart;
-  bytes = λ n apart _. only.others.bytes n apart;
-}
-
-pub two-second : (p q : ℕ) (a b : SpillState) → TouchesOnly q a b → b.is_overrun ≡ a.is_overrun → TouchesTwo p q a b
-two-second p q a b only overrun = record {
-  same = only.same;
-  count = only.count;
-  overrun = overrun;
-  sizes = λ n _ apart. only.others.size n apart;
-  bytes = λ n _ apart. only.others.bytes n apart;
 }
 
 -- one call after another, under the numbers that the parts have now
@@ -80,13 +49,4 @@ two-reading kind p q r page a b no_p no_q only is = record {
   some = is.some;
   within = is.within;
   on_page = λ told. is.on_page (sym only.same.tells ∙ told);
-}
-
--- both are there after a read
-pub there-read : (index : Part IndexRow) (tiles : BytePart) (a b : SpillState) → SameParts a b → AreThere index tiles a
-    → AreThere index tiles b
-there-read index tiles a b same there = record {
-  rows = there_same same there.rows;
-  bytes = ap (λ (s : SpillState). s.size tiles.part) same ∙ there.bytes;
-  apart = there.apart;
 }

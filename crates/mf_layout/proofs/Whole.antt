@@ -15,7 +15,7 @@ use Rattle.map_model.specs.MapFile.{all_tiles, sub_file_limit_fault, layout_faul
 use Rattle.map_model.specs.SubFile.{TileContent, entry_of}
 use Rattle.mf_rows.specs.declared.kinds.TileRow.{TileRow}
 use Rattle.spill_parts.specs.Shaped.{Spelled}
-use Rattle.tile_rows.specs.TileRows.{shown, rows_of_tiles}
+use Rattle.tile_rows.specs.TileRows.{shown}
 use Rattle.mf_layout.specs.Laid.{Tile, content, is_shown, is_water, index_row_of, bytes_of}
 use Rattle.mf_layout.specs.Laying.{AreToLay}
 use Rattle.mf_layout.specs.AllLaid.{tiles_from, flat, size_of_tiles, IsShort, IsBegun, AreAllDone, LayAll}
@@ -108,11 +108,6 @@ hold-tiles all subs s sizes rows bytes = record {
 
 -- ---- from the first interval to the last
 
--- behind the last tile no row is left
-pub nothing-left : (limit : ℕ) (list : List Spelled) (left : List TileRow) → AreToLay limit list [] left → left ≡ []
-unfolding rows_of_tiles
-nothing-left limit list left to_lay = to_lay.left.rows_are
-
 -- Sub-files of these sizes are what was laid out.
 pub record AreOf (sizes : List SubFileSize) (laid : Laid) (subs : SubFiles) : Type 0 where
   pub sizes_are : subs.sizes.items ≡ sizes
@@ -151,10 +146,6 @@ module _ (limit : ℕ) (set : HeadSettings) (box : Rect) (left left_now : List T
     done : AreAllDone limit box 0 set.intervals list [] left_now lays.all
     done = lays.told told list [] (subst (λ ts. AreToLay limit list ts left)
         (sym (tiles-all set box) ∙ sym (append-nil (tiles_from box 0 set.intervals))) to_lay)
-
-    -- no row is left
-    pub whole-left : left_now ≡ []
-    whole-left = nothing-left limit list left_now done.to_lay
 
     -- the fault of the layout is that of the sub-files
     pub whole-fault : layout_fault limit set box (map shown list)

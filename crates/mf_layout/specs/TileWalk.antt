@@ -8,9 +8,9 @@ abbrev pub row_from : TileRect → ℕ → ℕ → List (ℕ × ℕ)
 row_from t x y = map (λ n. (n, y)) (from_to x t.last_x)
 
 -- the tiles of a rectangle from one on, row by row from the north and west to east, or none
-abbrev pub tiles_from : TileRect → Option (ℕ × ℕ) → List (ℕ × ℕ)
-tiles_from t None = []
-tiles_from t (Some at) = row_from t at.0 at.1 ++ flat_map (λ y. row_from t t.first_x y) (from_to (at.1 + 1) t.last_y)
+abbrev pub walk_from : TileRect → Option (ℕ × ℕ) → List (ℕ × ℕ)
+walk_from t None = []
+walk_from t (Some at) = row_from t at.0 at.1 ++ flat_map (λ y. row_from t t.first_x y) (from_to (at.1 + 1) t.last_y)
 
 -- a tile lies neither east nor south of a rectangle
 abbrev pub LiesBefore : TileRect → Option (ℕ × ℕ) → Type 0

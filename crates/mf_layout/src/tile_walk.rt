@@ -2,7 +2,7 @@
 
 ghost use Rattle.std.specs.Prelude.{◌≡◌, ℕ, ◌≤◌, [], ◌∷◌, Some, None};
 ghost use Rattle.map_model.specs.TileRects.{IsTileRect, tiles_of};
-ghost use Rattle.mf_layout.specs.TileWalk.{tiles_from, LiesBefore};
+ghost use Rattle.mf_layout.specs.TileWalk.{walk_from, LiesBefore};
 
 use mf_base::tile::TileRect;
 use std::marker::Model;
@@ -17,11 +17,11 @@ pub(crate) struct TileWalk {
 
 impl Model for TileWalk {
     ghost use Rattle.std.specs.Prelude.{ℕ, ◌≤◌, List};
-    ghost use Rattle.mf_layout.specs.TileWalk.{tiles_from, LiesBefore};
+    ghost use Rattle.mf_layout.specs.TileWalk.{walk_from, LiesBefore};
 
     ghost Value = { List (ℕ × ℕ) };
 
-    ghost view = { λ w. tiles_from w.tiles w.next };
+    ghost view = { λ w. walk_from w.tiles w.next };
 
     ghost invariant = { λ w. (w.tiles.first_x ≤ w.tiles.last_x) × LiesBefore w.tiles w.next };
 }
@@ -56,7 +56,7 @@ fn behind(tiles: &TileRect, x: u32, y: u32) -> Option<(u32, u32)>
     requires columns { tiles.now.first_x ≤ tiles.now.last_x }
     requires x { x ≤ tiles.now.last_x }
     requires y { y ≤ tiles.now.last_y }
-    ensures next { tiles_from tiles.now (Some (x, y)) ≡ (x, y) ∷ tiles_from tiles.now result }
+    ensures next { walk_from tiles.now (Some (x, y)) ≡ (x, y) ∷ walk_from tiles.now result }
     ensures before { LiesBefore tiles.now result }
 {
     if x < tiles.last_x {
