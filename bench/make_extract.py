@@ -97,4 +97,5 @@ def main():
                 out.write(block(b"".join(map(one, part))))
 
 
-main()
+if __name__ == "__main__":
+    main()

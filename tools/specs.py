@@ -5,6 +5,7 @@ from pathlib import Path
 TOP = Path(__file__).resolve().parent.parent
 UNLISTED = {"Lib", "Samples", "Laws", "NumberOrder", "Spelled"}
 SIGNATURE = re.compile(r"(\s*)(?:(?:abbrev|unfoldable) )?(?:pub )?(?:record |data )?(\S+) (?:\([^=]*\) |\{[^=]*\} )*: ")
+PUBLIC = re.compile(r"(\s*)(?:(?:abbrev|unfoldable) )?pub (?:record |data )?(\S+)")
 USE = re.compile(r"\s*(?:ghost |unfoldable )?(?:pub )?use Rattle\.(\w+)\.specs\.([\w.]+?)(?:\.\{([^}]*)\})?(?: as (\w+))?;?$")
 TOKEN = re.compile(r"[^\s(){};,]+")
 
@@ -46,7 +47,7 @@ def bodies_of(lines):
             within = False
         if line.lstrip().startswith(("--", "use ", "pub use ", "unfoldable pub use ", "infix")) or not line.strip():
             continue
-        begins = SIGNATURE.match(line)
+        begins = SIGNATURE.match(line) or PUBLIC.match(line)
         if begins and len(begins.group(1)) == (2 if within else 0):
             now = begins.group(2)
             bodies[now] = []
