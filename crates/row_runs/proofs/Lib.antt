@@ -1,0 +1,3 @@
+pub mod KeyRuns
+pub mod Flat
+pub mod Running
