@@ -1,6 +1,7 @@
 -- What is left of a part that is read run after run.
 use Rattle.std.proofs.Common.{◌≡◌, ◌≢◌, ℕ, ◌+◌, ◌*◌, ◌≤◌, List, [], ◌∷◌, ◌++◌, length, Bool, true, Option, Some}
-use Rattle.std.proofs.Common.{None, refl, sym, ap, subst, ◌∙◌, arith, length-append, eq-eqb}
+use Rattle.std.proofs.Common.{None, refl, sym, ap, subst, ◌∙◌, arith, map, length-append, append_assoc, eq-eqb}
+use Rattle.std.proofs.lemmas.List.{length-map}
 use Rattle.std.proofs.Math.Nat.{mul-le-mul_right}
 use Rattle.mf_edge.specs.Spill.{SpillState, SameParts, KeepsOthers, part_limit}
 use Rattle.mf_rows.specs.RowKinds.{Kind}
@@ -20,6 +21,10 @@ given_length tells left (Some row) left_now given = ap length (sym given.1)
 -- a store tells its bytes as before where only faults were counted
 pub tells_as_before : (s s_now : SpillState) → SameParts s s_now → s_now.tells ≡ s.tells
 tells_as_before s s_now same = ap (λ (s : SpillState). s.tells) same
+
+-- and it is overrun where it was
+pub overrun_as_before : (s s_now : SpillState) → SameParts s s_now → s_now.is_overrun ≡ s.is_overrun
+overrun_as_before s s_now same = ap (λ (s : SpillState). s.is_overrun) same
 
 -- rows have a byte each at least
 pub few_rows : (width n limit : ℕ) → 1 ≤ width → width * n ≤ limit → n ≤ limit
@@ -95,3 +100,34 @@ pub run_ended : {N : Type 0} (key : N → ℕ) (k : ℕ) (tells : Bool) (left le
     → GivesOf key k tells left None left_now → (run_of key k left ≡ []) × (after_run key k left ≡ left)
 run_ended key k tells [] left_now given = (refl, refl)
 run_ended key k tells (r ∷ rs) left_now given = (rw given.0 refl, rw given.0 refl)
+
+-- ---- rows that are put to another part
+
+-- there is room for one of those that are still to be put
+pub room_for_one : (width limit have next first all : ℕ) → have + (next + 1) ≡ first + all
+    → width * first + width * all ≤ limit → width * have + width ≤ limit
+room_for_one width limit have next first all same fits = omega (arith, ap (λ n. width * n) same, fits)
+
+-- there is room for the first of a run, where there is room for the run
+pub room_in_run : {N O : Type 0} (width limit : ℕ) (made : N → O) (here first : List O) (row : N) (now next all : List N)
+    → now ≡ row ∷ next → here ++ map made now ≡ first ++ map made all
+    → width * length first + width * length all ≤ limit → width * length here + width ≤ limit
+room_in_run width limit made here first row now next all is same fits =
+    let total : length here + length now ≡ length first + length all =
+    ap (λ n. length here + n) (sym (length-map now made))
+    ∙ sym (length-append here (map made now))
+    ∙ ap length same
+    ∙ length-append first (map made all)
+    ∙ ap (λ n. length first + n) (length-map all made) in
+    room_for_one width limit (length here) (length next) (length first) (length all) (omega (arith, total, ap length is))
+    fits
+
+-- a row of the run was put
+pub run_put : {N O : Type 0} (made : N → O) (row : N) (now next : List N) (put : O) (here here_now all : List O)
+    → now ≡ row ∷ next → put ≡ made row → here_now ≡ here ++ put ∷ [] → here ++ map made now ≡ all
+    → here_now ++ map made next ≡ all
+run_put made row now next put here here_now all is one more same =
+    ap (λ rows. rows ++ map made next) (more ∙ ap (λ o. here ++ o ∷ []) one)
+    ∙ append_assoc here (made row ∷ []) (map made next)
+    ∙ ap (λ rows. here ++ map made rows) (sym is)
+    ∙ same

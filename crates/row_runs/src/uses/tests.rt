@@ -1,15 +1,14 @@
 //! Six rows through a page of two, asked for by rising keys.
 
-ghost use Rattle.std.specs.Prelude.{◌≡◌, ◌<◌, ◌≤◌, true, false, length, IfOk, OnOk, codes};
+ghost use Rattle.std.specs.Prelude.{◌≡◌, ◌+◌, ◌<◌, ◌≤◌, true, false, length, IfOk, OnOk, codes};
 ghost use Rattle.mf_edge.specs.Spill.{SameStore, SameParts, IsNameOf, most_parts};
 ghost use Rattle.spill_parts.specs.Parts.{IsHeld};
 ghost use Rattle.row_runs.specs.Running.{IsRunning};
 
 use super::*;
 use mf_edge::MemSpill;
-use mf_rows::kind::RowKind;
 use mf_rows::kinds::NodeRow;
-use spill_parts::{Part, Writer};
+use spill_parts::{Part, Reader};
 use std::alloc::{AllocError, Global};
 use std::marker::Brand;
 use std::sync::ledger::Blank;
@@ -99,6 +98,7 @@ fn written<N: Keyed, P: Spill>(
     requires few { (P.state spill.old).count < most_parts }
     requires room { length rows.now ≤ page.old.room }
     ensures same { SameStore (P.state spill.old) (P.state spill.new) }
+    ensures count { (P.state spill.new).count ≤ (P.state spill.old).count + 1 }
     ensures held { IfOk result (λ part. IsHeld N.kind part (P.state spill.new)) }
 {
     let mut writer = Writer::make(spill)?;
@@ -230,6 +230,103 @@ fn each_of_six_calls_fails_in_turn(rt: HostRuntime) -> Result<(), Fail> {
         let few = are_given(rt.alloc(), &rows, &[2], &rows[..3], &[call])?;
         assert_eq!(rt; few, call >= 6, "call {call}");
     }
+    Ok(())
+}
+
+impl MadeOf<Numbered> for NodeRow {
+    ghost made_of = { λ r. r.node };
+
+    fn made(row: &Numbered) -> NodeRow {
+        row.node
+    }
+}
+
+// Puts the rows of a part to the front of a room, and answers how many there are. There is room for all.
+fn rows_of<O: RowKind, P: Spill, L: Ledger>(
+    part: &Part<O>,
+    spill: &mut P,
+    page: &mut Page,
+    steps: &mut Steps<L>,
+    room: &mut [O],
+) -> Result<usize, Failed>
+    requires started { (P.state spill.old).is_started ≡ true }
+    requires held { IsHeld O.kind part.now (P.state spill.old) }
+    ensures most { IfOk result (λ n. n ≤ length room.new) }
+{
+    let mut reader = Reader::start(part);
+    let mut n = 0;
+    while let Some(row) = reader.next(spill, page, steps)? {
+        if n == room.len() {
+            return Err(Failed);
+        }
+        room[n] = row;
+        n += 1;
+    }
+    Ok(n)
+}
+
+// The rows of these keys, as they are read where they were put to another part.
+fn put_out<N: Keyed, O: MadeOf<N>, P: Spill, L: Ledger>(
+    spill: &mut P,
+    rows: &[N],
+    keys: &[u64],
+    first: &mut Page,
+    page: &mut Page,
+    blank: Blank,
+    room: &mut [O],
+) -> Result<usize, Failed>
+    requires ledger { blank.name ≡ L.name }
+    requires parts { blank.parts ≡ L.parts }
+    requires some { 0 < blank.parts }
+    requires untold { (P.state spill.old).tells ≡ false }
+    requires name { IsNameOf (codes "rows") (P.state spill.old).name }
+    requires rows { length rows.now ≤ first.old.room }
+    ensures most { IfOk result (λ n. n ≤ length room.new) }
+{
+    let mut steps = Steps::<L>::new(blank);
+    spill.start("rows")?;
+    let part = written(spill, rows, first)?;
+    let mut out = Writer::<O>::make(spill)?;
+    let mut runs = Runs::start(&part, spill, page, &mut steps)?;
+    for key in keys {
+        runs.seek(*key, spill, page, &mut steps)?;
+        put_run(*key, &mut runs, &mut out, spill, page, &mut steps)?;
+    }
+    rows_of(&out.finish(), spill, page, &mut steps, room)
+}
+
+#[test]
+fn runs_are_put_to_another_part(rt: HostRuntime) -> Result<(), Fail> {
+    let rows = [
+        row(2, 0),
+        row(2, 1),
+        row(2, 2),
+        row(5, 3),
+        row(7, 4),
+        row(7, 5),
+    ];
+    let mut first = Page::new(rt.alloc(), 6)?;
+    let mut page = Page::new(rt.alloc(), 2)?;
+    let mut store = MemSpill::untold(rt.alloc(), &[], 0)?;
+    let mut room = [row(0, 9).node; 5];
+    let outcome = put_out::<Numbered, NodeRow, MemSpill, Brand>(
+        &mut store,
+        &rows,
+        &[1, 2, 3, 7, 9],
+        &mut first,
+        &mut page,
+        Blank::new(1),
+        &mut room,
+    );
+    let found = [
+        row(2, 0).node,
+        row(2, 1).node,
+        row(2, 2).node,
+        row(7, 4).node,
+        row(7, 5).node,
+    ];
+    assert_eq!(rt; outcome, Ok(5));
+    assert!(rt; room == found);
     Ok(())
 }
 
