@@ -3,6 +3,7 @@
 
 mod byte_part;
 mod handed;
+mod keys;
 mod lookup;
 mod merge;
 mod part;

@@ -57,6 +57,7 @@ impl<N: Keyed> Lookup<N> {
         ensures steps { IfOk result (λ l. steps.new ≡ steps.old + N.kind.width * l.reading.loaded) }
         ensures within { IfOk result (λ l. N.kind.width * l.reading.loaded ≤ N.kind.width * length part.now.rows) }
         ensures steps_failed { OnErr result (steps.new ≤ steps.old + N.kind.width * length part.now.rows) }
+        ensures same_room { page.new.room ≡ page.old.room }
         ensures same { SameParts (P.state spill.old) (P.state spill.new) }
         ensures counts { (P.state spill.old).faults ≤ (P.state spill.new).faults }
     {
@@ -93,6 +94,7 @@ impl<N: Keyed> Lookup<N> {
         ensures steps_failed { OnErr result (steps.new + N.kind.width * self.old.reading.loaded
             ≤ steps.old + N.kind.width * length self.old.reading.source.rows) }
         ensures same_source { self.new.reading.source ≡ self.old.reading.source }
+        ensures same_room { page.new.room ≡ page.old.room }
         ensures same { SameParts (P.state spill.old) (P.state spill.new) }
         ensures counts { (P.state spill.old).faults ≤ (P.state spill.new).faults }
     {
@@ -126,6 +128,7 @@ fn pass_below<N: Keyed, P: Spill, L: Ledger>(
         → N.kind.width * reader.new.loaded ≤ N.kind.width * length reader.new.source.rows) }
     ensures failed { OnErr result (CountsOne (P.state spill.old).faults (P.state spill.new).faults) }
     ensures same_source { reader.new.source ≡ reader.old.source }
+    ensures same_room { page.new.room ≡ page.old.room }
     ensures same { SameParts (P.state spill.old) (P.state spill.new) }
     ensures counts { (P.state spill.old).faults ≤ (P.state spill.new).faults }
 {

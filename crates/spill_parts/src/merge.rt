@@ -59,6 +59,7 @@ pub fn join<R: Keyed, N: Keyed, O: JoinOf<R, N>, P: Spill, L: Ledger>(
     ensures steps { steps.new ≤ steps.old + R.kind.width * length refs.now.rows + N.kind.width * length nodes.now.rows }
     ensures same { SameStore (P.state spill.old) (P.state spill.new) }
     ensures counts { (P.state spill.old).faults ≤ (P.state spill.new).faults }
+    ensures same_rooms { (first.new.room ≡ first.old.room) × (second.new.room ≡ second.old.room) }
 {
     let mut out = Writer::<O>::make(spill)?;
     let mut reader = Reader::start(refs);
@@ -108,6 +109,7 @@ fn join_row<R: Keyed, N: Keyed, O: JoinOf<R, N>, P: Spill, L: Ledger>(
         ≤ steps.old + N.kind.width * length lookup.old.reading.source.rows }
     ensures only { TouchesOnly out.old.part (P.state spill.old) (P.state spill.new) }
     ensures counts { (P.state spill.old).faults ≤ (P.state spill.new).faults }
+    ensures same_room { page.new.room ≡ page.old.room }
 {
     let found = lookup.find(row.key(), spill, page, steps)?;
     put_joined(row, found, out, spill)

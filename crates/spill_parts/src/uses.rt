@@ -34,6 +34,7 @@ pub fn copy<K: RowKind, P: Spill, L: Ledger>(
     ensures same { SameStore (P.state spill.old) (P.state spill.new) }
     ensures same_overrun { (P.state spill.new).is_overrun ≡ (P.state spill.old).is_overrun }
     ensures counts { (P.state spill.old).faults ≤ (P.state spill.new).faults }
+    ensures same_room { page.new.room ≡ page.old.room }
 {
     let mut to = Writer::<K>::make(spill)?;
     let mut reader = Reader::start(from);
@@ -65,6 +66,7 @@ fn copy_rest<K: RowKind, P: Spill, L: Ledger>(
     ensures only { TouchesOnly to.old.part (P.state spill.old) (P.state spill.new) }
     ensures same_overrun { (P.state spill.new).is_overrun ≡ (P.state spill.old).is_overrun }
     ensures counts { (P.state spill.old).faults ≤ (P.state spill.new).faults }
+    ensures same_room { page.new.room ≡ page.old.room }
 {
     while let Some(row) = reader.next(spill, page, steps)? {
         to.put(spill, &row)?;

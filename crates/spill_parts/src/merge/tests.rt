@@ -12,36 +12,6 @@ use std::marker::Brand;
 use std::sync::ledger::Blank;
 use std::test::Fail;
 
-impl Keyed for RefRow {
-    ghost key_of = { λ r. r.node };
-
-    fn key(&self) -> u64 {
-        self.node
-    }
-}
-
-impl Keyed for NodeRow {
-    ghost key_of = { λ r. r.node };
-
-    fn key(&self) -> u64 {
-        self.node
-    }
-}
-
-impl JoinOf<RefRow, NodeRow> for PointRow {
-    ghost join_of = { λ r n. record { way = r.way; place = r.place; node = r.node; lat = n.lat; lon = n.lon } };
-
-    fn join(r: &RefRow, n: &NodeRow) -> PointRow {
-        PointRow {
-            way: r.way,
-            place: r.place,
-            node: r.node,
-            lat: n.lat,
-            lon: n.lon,
-        }
-    }
-}
-
 // The rows of a join, as they are read, over a store that does not tell its bytes: it asks of no row that it is in
 // order.
 fn joined<P: Spill, L: Ledger>(

@@ -13,6 +13,7 @@ invariant-loop-held g l = record {
   rest : (g.P.Spill.state l.fn.spill).tells ≡ true
       → from_key g.N.Keyed.key_of l.wanted (rest_of l.held l.reader.left)
       ≡ from_key g.N.Keyed.key_of l.wanted (rest_of l.fn.held l.fn.reader.left);
+  same_room : l.page.room ≡ l.fn.page.room;
   steps : l.steps + g.N.RowKind.kind.width * l.fn.reader.loaded ≡ l.fn.steps + g.N.RowKind.kind.width * l.reader.loaded;
   within : g.N.RowKind.kind.width * l.fn.reader.loaded ≤ g.N.RowKind.kind.width * length l.fn.reader.source.rows
       → g.N.RowKind.kind.width * l.reader.loaded ≤ g.N.RowKind.kind.width * length l.reader.source.rows;

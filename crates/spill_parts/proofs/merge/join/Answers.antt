@@ -1,5 +1,5 @@
 use Rattle.std.proofs.Common.{◌≡◌, ◌≢◌, ◌*◌, ◌≤◌, ◌++◌, List, length, sym, ap, subst, ◌∙◌, arith, Option, Some}
-use Rattle.std.proofs.Common.{Result, Ok, Err}
+use Rattle.std.proofs.Common.{Result, Ok, Err, refl}
 use Rattle.std.proofs.Common.{append_assoc}
 use Rattle.std.proofs.lemmas.List.{append-nil}
 use Rattle.std.specs.Prelude.{◌==◌, find, OnErr}
@@ -44,6 +44,8 @@ loop-row-init g c =
       refs_within = rw c.start-reader.ensures.none_loaded (omega arith);
       nodes_within = subst (λ (p : Part g.row.N.Denot). g.N.RowKind.kind.width * c.in_ok-lookup.lookup.reading.loaded
           ≤ g.N.RowKind.kind.width * length p.rows) (sym c.in_ok-lookup.ensures.source) c.in_ok-lookup.ensures.within;
+      first_room = refl;
+      second_room = c.in_ok-lookup.ensures.same_room;
       steps =
           let none : g.R.RowKind.kind.width * c.start-reader.result.loaded ≡ 0 =
           rw c.start-reader.ensures.none_loaded (omega arith) in
@@ -121,6 +123,8 @@ loop-row-preserved g c =
       refs = refs_source;
       refs_within = c.in_ok-row.ensures.within;
       nodes_within = c.in_ok-join_row.ensures.within;
+      first_room = c.in_ok-row.ensures.same_room ∙ I.first_room;
+      second_room = c.in_ok-join_row.ensures.same_room ∙ I.second_room;
       steps = omega (arith, I.steps, c.in_ok-row.ensures.steps, c.in_ok-join_row.ensures.steps);
     }
 

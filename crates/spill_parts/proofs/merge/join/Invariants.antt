@@ -32,6 +32,8 @@ invariant-loop-row g l = record {
   refs_within : g.R.RowKind.kind.width * l.reader.loaded ≤ g.R.RowKind.kind.width * length l.reader.source.rows;
   nodes_within : g.N.RowKind.kind.width * l.lookup.reading.loaded
       ≤ g.N.RowKind.kind.width * length l.lookup.reading.source.rows;
+  first_room : l.first.room ≡ l.fn.first.room;
+  second_room : l.second.room ≡ l.fn.second.room;
   steps : l.steps
       ≡ l.fn.steps + g.R.RowKind.kind.width * l.reader.loaded + g.N.RowKind.kind.width * l.lookup.reading.loaded;
 }

@@ -38,6 +38,7 @@ loop-row-preserved g c =
           ∙ ap (λ rs. to.rows ++ rs) (sym first)
           ∙ I.rows told;
       as_many = omega (arith, I.as_many, more, fewer);
+      same_room = c.in_ok-row.ensures.same_room ∙ I.same_room;
       steps = omega (arith, I.steps, c.in_ok-row.ensures.steps);
       within = c.in_ok-row.ensures.within;
       small = one_moves width (length to.rows) (length c.put.new.self.rows) (length c.loop-row.reader.left)

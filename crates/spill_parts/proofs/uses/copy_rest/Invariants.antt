@@ -13,6 +13,7 @@ invariant-loop-row g l = record {
   source : l.reader.source ≡ l.fn.reader.source;
   rows : (g.P.Spill.state l.fn.spill).tells ≡ true → l.to.rows ++ l.reader.left ≡ l.fn.to.rows ++ l.fn.reader.left;
   as_many : length l.to.rows + length l.reader.left ≡ length l.fn.to.rows + length l.fn.reader.left;
+  same_room : l.page.room ≡ l.fn.page.room;
   steps : l.steps + g.K.RowKind.kind.width * l.fn.reader.loaded ≡ l.fn.steps + g.K.RowKind.kind.width * l.reader.loaded;
   within : g.K.RowKind.kind.width * l.reader.loaded ≤ g.K.RowKind.kind.width * length l.reader.source.rows;
   small : g.K.RowKind.kind.width * length l.to.rows + g.K.RowKind.kind.width * length l.reader.left ≤ part_limit;

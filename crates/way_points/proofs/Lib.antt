@@ -1,0 +1,4 @@
+pub mod InOrder
+pub mod Joined
+pub mod Orders
+pub mod OfWay
