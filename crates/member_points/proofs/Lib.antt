@@ -1,0 +1,10 @@
+pub mod Lists
+pub mod InOrder
+pub mod Parts
+pub mod OfRelation
+pub mod Fronts
+pub mod Stores
+pub mod StillToPut
+pub mod Climbing
+pub mod Fitting
+pub mod Orders

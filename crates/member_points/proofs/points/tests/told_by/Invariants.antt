@@ -1,0 +1,4 @@
+use Rattle.member_points.proofs.points.tests.told_by.Given as goal
+
+abbrev pub ghosts-are_made : goal.ghosts-are_made
+ghosts-are_made a = record { name = a.blank.name; parts = a.blank.parts }

@@ -1,0 +1,2 @@
+pub mod RelRows
+pub mod Pairing
